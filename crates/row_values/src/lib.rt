@@ -1,0 +1,14 @@
+//! The kinds, values, rows and schemas of a table, and the order of values.
+#![tactic(auto)]
+
+mod kind;
+mod order;
+mod partition;
+mod schema;
+mod value;
+
+pub use kind::Kind;
+pub use partition::{PartField, Spec, Transform};
+pub use plain_types::{Bytes, List, Text};
+pub use schema::{Column, TableSchema};
+pub use value::{Row, Value};
