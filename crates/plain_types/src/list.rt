@@ -49,6 +49,11 @@ impl<T> List<T> {
         self.items.as_slice()
     }
 
+    /// The allocator that the list grows on.
+    pub fn allocator(&self) -> Global {
+        *self.items.allocator()
+    }
+
     pub fn len(&self) -> usize
         ensures { result ≡ length self.now }
     {

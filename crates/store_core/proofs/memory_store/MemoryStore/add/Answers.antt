@@ -1,0 +1,7 @@
+use Rattle.std.proofs.Common.{◌≡◌, ◌++◌, ◌∷◌, [], rules, sym, ap, ◌∙◌}
+use Rattle.store_core.specs.Memory.{files_of}
+use Rattle.store_core.proofs.FilesLemmas.{files_of-push}
+use Rattle.store_core.proofs.memory_store.MemoryStore.add.Goals as goal
+
+pub returns-clause-ok : goal.returns-clause-ok
+returns-clause-ok c = search (rules, files_of-push)
