@@ -4,6 +4,7 @@ use Rattle.std.specs.List.{list_any}
 use Rattle.std.proofs.lemmas.Bool.{cases_Bool, or_cases, or_parts, or_from, or_left, or_right}
 use Rattle.std.proofs.lemmas.List.Folds.{list_any-append}
 use Rattle.std.proofs.lemmas.List.Sums.{sum_by-cons}
+use Rattle.std.proofs.lemmas.List.Sorted.{IsPermutation-refl, IsPermutation-sym, IsPermutation-trans, IsPermutation-cons, IsPermutation-middle, sum_by-IsPermutation}
 use Rattle.plain_types.specs.Bags.{total, SameBag, In, has, Apart, Tells}
 
 module _ {X : Type 0} (weight : X → ℕ) where
@@ -197,7 +198,8 @@ pub Apart-append_from : {X : Type 0} (same : X → X → Bool) (xs ys : List X) 
 Apart-append_from same [] ys first second between = second
 Apart-append_from same (x ∷ xs) ys first second between = (list_any-append (same x) xs ys ∙ or_from (has same x xs) (has same x ys) first.0 (between x (inl refl)), Apart-append_from same xs ys first.1 second (λ z later. between z (inr later)))
 
-total-zero : {X : Type 0} (xs : List X) → total (λ x. 0) xs ≡ 0
+-- a weight of nothing
+pub total-zero : {X : Type 0} (xs : List X) → total (λ x. 0) xs ≡ 0
 total-zero [] = refl
 total-zero (x ∷ xs) = omega (arith, total-zero xs)
 
@@ -229,3 +231,60 @@ module _ {X : Type 0} {same : X → X → Bool} (tells : Tells same) where
       either_way x y true p false q = absurd (true≢false (sym (tells.itself y) ∙ ap (same y) (sym (tells.means x y p)) ∙ q))
       either_way x y false p true q = absurd (true≢false (sym (tells.itself x) ∙ ap (same x) (sym (tells.means y x q)) ∙ p))
       either_way x y false p false q = refl
+
+-- a bag has equal counts for every test
+pub SameBag-count_by : {X : Type 0} (xs ys : List X) → SameBag xs ys → (test : X → Bool) → count_by test xs ≡ count_by test ys
+SameBag-count_by {X} xs ys same test = let weight : X → ℕ = λ x. cond (test x) 1 0 in sym (total-sum_by weight xs) ∙ same weight ∙ total-sum_by weight ys
+
+bounded : {X : Type 0} (weight : X → ℕ) (x : X) (xs : List X) → In x xs → weight x ≤ total weight xs
+bounded weight x [] there = absurd there
+bounded weight x (y ∷ xs) (inl here) = omega (arith, ap weight here)
+bounded weight x (y ∷ xs) (inr later) = omega (arith, bounded weight x xs later)
+
+none_weighs : {X : Type 0} (weight : X → ℕ) (xs : List X) → ((x : X) → In x xs → weight x ≤ 0) → total weight xs ≡ 0
+none_weighs weight xs light = total-weights weight (λ x. 0) xs (λ x there. omega (arith, light x there)) ∙ total-zero xs
+
+one_off : (n : ℕ) → n ≡ cond (nat_lt 0 n) 1 0 + (n - 1)
+one_off n = grind arith
+
+by_counts : {X : Type 0} (xs ys : List X) → ((test : X → Bool) → count_by test xs ≡ count_by test ys)
+    → (bound : ℕ) (weight : X → ℕ) → ((x : X) → In x xs → weight x ≤ bound) → ((x : X) → In x ys → weight x ≤ bound) → total weight xs ≡ total weight ys
+by_counts xs ys counts zero weight first second = none_weighs weight xs first ∙ sym (none_weighs weight ys second)
+by_counts {X} xs ys counts (suc bound) weight first second =
+    let ones : X → ℕ = λ x. cond (nat_lt 0 (weight x)) 1 0 in
+    let less : X → ℕ = λ x. weight x - 1 in
+    let split : (zs : List X) → total weight zs ≡ total ones zs + total less zs = λ zs. total-weights weight (λ x. ones x + less x) zs (λ x there. one_off (weight x)) ∙ total-plus ones less zs in
+    let counted : total ones xs ≡ total ones ys = total-sum_by ones xs ∙ counts (λ x. nat_lt 0 (weight x)) ∙ sym (total-sum_by ones ys) in
+    let smaller : total less xs ≡ total less ys = by_counts xs ys counts bound less (λ x there. omega (arith, first x there)) (λ x there. omega (arith, second x there)) in
+    omega (arith, split xs, split ys, counted, smaller)
+
+-- and equal counts for every test make a bag
+pub SameBag-from_counts : {X : Type 0} (xs ys : List X) → ((test : X → Bool) → count_by test xs ≡ count_by test ys) → SameBag xs ys
+SameBag-from_counts xs ys counts weight =
+    by_counts xs ys counts (total weight xs + total weight ys) weight (λ x there. omega (arith, bounded weight x xs there)) (λ x there. omega (arith, bounded weight x ys there))
+
+-- a list in another order is the same bag
+pub SameBag-from_permutation : {X : Type 0} (xs ys : List X) → IsPermutation xs ys → SameBag xs ys
+SameBag-from_permutation xs ys moved weight = total-sum_by weight xs ∙ sym (sum_by-IsPermutation weight xs ys moved) ∙ sym (total-sum_by weight ys)
+
+-- a member has a front before it and a rest after it
+split_at_member : {X : Type 0} (x : X) (ys : List X) → In x ys → (front : List X) × (rest : List X) × (ys ≡ front ++ x ∷ rest)
+split_at_member x [] there = absurd there
+split_at_member x (y ∷ ys) (inl here) = ([], ys, ap (λ z. z ∷ ys) (sym here))
+split_at_member x (y ∷ ys) (inr later) = let found = split_at_member x ys later in (y ∷ found.0, found.1, ap (λ l. y ∷ l) found.2)
+
+-- the same bag as one with x holds x, and is the same bag without it
+pub SameBag-taken : {X : Type 0} {same : X → X → Bool} (tells : Tells same) (x : X) (xs ys : List X) → SameBag (x ∷ xs) ys → (front : List X) × (rest : List X) × (ys ≡ front ++ x ∷ rest) × SameBag xs (front ++ rest)
+SameBag-taken {same = same} tells x xs ys bag =
+    let found = split_at_member x ys (In-has tells x ys (sym (SameBag-list_any (same x) (x ∷ xs) ys bag) ∙ has-In tells x (x ∷ xs) (inl refl))) in
+    (found.0, found.1, found.2, λ weight. omega (arith, bag weight, ap (total weight) found.2, total-append weight found.0 (x ∷ found.1), total-append weight found.0 found.1))
+
+-- the same bag is a list in another order
+pub IsPermutation-from_SameBag : {X : Type 0} {same : X → X → Bool} (tells : Tells same) (xs ys : List X) → SameBag xs ys → IsPermutation xs ys
+IsPermutation-from_SameBag {X} tells [] [] bag = IsPermutation-refl []
+IsPermutation-from_SameBag {X} tells [] (y ∷ ys) bag = absurd (omega (arith, bag (λ x. 1)))
+IsPermutation-from_SameBag {X} tells (x ∷ xs) ys bag =
+    let found = SameBag-taken tells x xs ys bag in
+    let rest : IsPermutation (x ∷ xs) (x ∷ (found.0 ++ found.1)) = IsPermutation-cons x xs (found.0 ++ found.1) (IsPermutation-from_SameBag tells xs (found.0 ++ found.1) found.3) in
+    let back : IsPermutation (x ∷ (found.0 ++ found.1)) (found.0 ++ x ∷ found.1) = IsPermutation-sym (found.0 ++ x ∷ found.1) (x ∷ (found.0 ++ found.1)) (IsPermutation-middle found.0 x found.1) in
+    subst (λ l. IsPermutation (x ∷ xs) l) (sym found.2) (IsPermutation-trans (x ∷ xs) (x ∷ (found.0 ++ found.1)) (found.0 ++ x ∷ found.1) rest back)
