@@ -181,3 +181,6 @@ in_byte_order-from_sorted xs ys bag sorted = sym (in_byte_order-SameBag xs ys ba
 -- what a sort leaves is the list in byte order
 pub in_byte_order-from_sort : (xs ys : List (List ℕ)) → IsPermutation xs ys → IsSorted (slice_cmp nat_cmp) ys → ys ≡ in_byte_order xs
 in_byte_order-from_sort xs ys moved sorted = in_byte_order-from_sorted xs ys (SameBag-from_permutation xs ys moved) sorted
+
+-- for `using`
+pub ruleset byte_order = (in_byte_order-from_sort)
