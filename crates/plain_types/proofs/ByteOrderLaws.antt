@@ -1,12 +1,12 @@
 -- The byte order of a bag of texts: it is one list for a bag, and the only one of the bag that is sorted.
-use Rattle.std.proofs.Common.{◌≡◌, refl, sym, ap, subst, ◌∙◌, true≢false, ℕ, zero, suc, ◌+◌, ◌<◌, ◌≤◌, inl, inr, ⊎_elim, Bool, true, false, cond, not, List, [], ◌∷◌, ◌++◌, length, get_or, nat_eq, nat_cmp, is_le, is_lt, is_gt, if◌then◌else◌, Ordering, Less, Equal, Greater, IsPermutation, IsSorted, arith}
+use Rattle.std.proofs.Common.{◌≡◌, refl, sym, ap, ◌∙◌, true≢false, ℕ, zero, suc, ◌+◌, Bool, true, false, not, List, [], ◌∷◌, ◌++◌, get_or, nat_eq, nat_cmp, is_le, is_lt, is_gt, if◌then◌else◌, Ordering, Less, Equal, Greater, IsPermutation, IsSorted, arith}
 use Rattle.std.specs.Cmp.Lexicographic.{slice_cmp, pointwise, same_text}
 use Rattle.std.specs.Ordering.{ordering_reverse}
 use Rattle.std.proofs.lemmas.Cmp.{nat_list_cmp_total, nat_list_eq_equiv, upto}
 use Rattle.std.proofs.lemmas.Map.Lookups.{exact_bytes}
-use Rattle.plain_types.specs.Bags.{total, SameBag, In, Tells}
+use Rattle.plain_types.specs.Bags.{total, SameBag, Tells}
 use Rattle.plain_types.specs.ByteOrder.{with_text, in_byte_order}
-use Rattle.plain_types.proofs.BagLaws.{SameBag-sym, SameBag-trans, SameBag-from_permutation, SameBag-taken}
+use Rattle.plain_types.proofs.BagLaws.{SameBag-from_permutation, SameBag-taken}
 
 -- the test of texts, byte by byte, tells
 pub Tells-texts : Tells (pointwise nat_eq)
