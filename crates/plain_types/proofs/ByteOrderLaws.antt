@@ -182,5 +182,5 @@ in_byte_order-from_sorted xs ys bag sorted = sym (in_byte_order-SameBag xs ys ba
 pub in_byte_order-from_sort : (xs ys : List (List ℕ)) → IsPermutation xs ys → IsSorted (slice_cmp nat_cmp) ys → ys ≡ in_byte_order xs
 in_byte_order-from_sort xs ys moved sorted = in_byte_order-from_sorted xs ys (SameBag-from_permutation xs ys moved) sorted
 
--- for `using`
+-- what a function that sorts names in its attribute
 pub ruleset byte_order = (in_byte_order-from_sort)
