@@ -6,10 +6,19 @@
 #![tactic(auto)]
 
 mod bytes;
+mod laws;
 mod list;
+mod order;
+#[cfg(test)]
+mod tests;
 mod text;
 
 pub use bytes::Bytes;
+pub use laws::{
+    joining_keeps_a_bag, mapping_keeps_a_bag, one_list_in_byte_order, order_does_not_matter,
+    permutation_is_same_bag, same_bag_is_equal_counts,
+};
 pub use list::List;
+pub use order::sort_in_byte_order;
 pub use sqlite_items::{Boxed, Items};
 pub use text::Text;
