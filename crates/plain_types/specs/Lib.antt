@@ -1,3 +1,4 @@
 pub mod Bags
 pub mod ByteOrder
 pub mod Causes
+pub mod Paths

@@ -9,6 +9,7 @@ mod bytes;
 mod laws;
 mod list;
 mod order;
+mod path;
 #[cfg(test)]
 mod tests;
 mod text;
@@ -20,5 +21,6 @@ pub use laws::{
 };
 pub use list::List;
 pub use order::sort_in_byte_order;
+pub use path::is_path;
 pub use sqlite_items::{Boxed, Items};
 pub use text::Text;

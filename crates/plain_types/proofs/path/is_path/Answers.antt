@@ -1,0 +1,11 @@
+use Rattle.std.proofs.Common.{lit<, rules}
+use Rattle.std.proofs.lemmas.Iterator.Splits.{YieldsList-from_str_split}
+use Rattle.std.proofs.lemmas.Iterator.Search.{all_from_yields_List}
+use Rattle.plain_types.specs.Paths.{is_part}
+use Rattle.plain_types.proofs.path.is_path.Goals as goal
+
+pub returns : goal.returns
+returns c =
+    all_from_yields_List is_part _ _ _ c.all.ensures.ran
+    (YieldsList-from_str_split 47 c.args.path.now (lit< tt) c.split.ensures.text c.split.ensures.has_more c.split.ensures.pattern)
+    (λ x b q h. search rules)
