@@ -1,0 +1,96 @@
+ghost use Rattle.std.specs.Prelude.{◌≡◌};
+ghost use Rattle.plain_types.specs.Causes.{bump};
+ghost use Rattle.store_files.specs.Counts.{counts_after};
+
+use crate::folder;
+use std::alloc::Global;
+use std::io;
+use std::io::ErrorKind;
+use std::rt::Files;
+use store_core::{Blob, List, Name, ReadAnswer, Store, StoreFault, SwapAnswer};
+
+/// A store whose names are paths below the working folder. Every error of the system counts as a fault, but for one that
+/// tells that a name is there or isn't.
+#[derive(Drop)]
+pub struct FolderStore<R> {
+    rt: R,
+    counts: Counts,
+}
+
+#[derive(Clone, Copy, Debug, PartialEq, Eq)]
+struct Counts {
+    faults: u64,
+    reads: u64,
+    unsettled: u64,
+}
+
+impl<R> FolderStore<R> {
+    /// The store below the working folder.
+    pub fn new(rt: R) -> FolderStore<R> {
+        FolderStore {
+            rt,
+            counts: Counts {
+                faults: 0,
+                reads: 0,
+                unsettled: 0,
+            },
+        }
+    }
+}
+
+impl<R: Files + AllocGlobal + Clone + Drop> Store for FolderStore<R> {
+    ghost use Rattle.std.specs.Prelude.{None};
+
+    ghost files = { λ _. None };
+
+    ghost faults = { λ store. store.counts.faults };
+
+    ghost reads = { λ store. store.counts.reads };
+
+    ghost unsettled = { λ store. store.counts.unsettled };
+
+    fn list(&mut self, alloc: Global, prefix: &str) -> Result<List<Name>, StoreFault> {
+        match folder::names_with(&self.rt, alloc, prefix) {
+            Ok(names) => Ok(List::from_vec(names)),
+            Err(error) => Err(count(&mut self.counts, error)),
+        }
+    }
+
+    fn read(&mut self, _alloc: Global, name: &str) -> Result<ReadAnswer, StoreFault> {
+        self.counts.reads = self.counts.reads.saturating_add(1);
+        match folder::read(&self.rt, name) {
+            Ok(bytes) => {
+                self.counts.unsettled = 0;
+                Ok(ReadAnswer::Found(Blob::from_vec(bytes)))
+            }
+            Err(error) if error.kind() == ErrorKind::NotFound => Ok(ReadAnswer::Missing),
+            Err(error) => Err(count(&mut self.counts, error)),
+        }
+    }
+
+    fn put(&mut self, _alloc: Global, name: &str, bytes: &[u8]) -> Result<(), StoreFault> {
+        match folder::create(&self.rt, name, bytes) {
+            Ok(()) => Ok(()),
+            Err(error) => Err(count(&mut self.counts, error)),
+        }
+    }
+
+    fn swap(&mut self, _alloc: Global, name: &str, bytes: &[u8]) -> Result<SwapAnswer, StoreFault> {
+        match folder::create(&self.rt, name, bytes) {
+            Ok(()) => Ok(SwapAnswer::Won),
+            Err(error) if error.kind() == ErrorKind::AlreadyExists => Ok(SwapAnswer::Lost),
+            Err(error) => Err(count(&mut self.counts, error)),
+        }
+    }
+}
+
+fn count(counts: &mut Counts, error: io::Error) -> StoreFault
+    ensures { counts.new ≡ counts_after result counts.old }
+{
+    if error.kind() == ErrorKind::OutOfMemory {
+        return StoreFault::Memory;
+    }
+    counts.faults = counts.faults.saturating_add(1);
+    counts.unsettled = counts.unsettled.saturating_add(1);
+    StoreFault::Failed
+}
