@@ -6,6 +6,12 @@ mod json;
 mod kind_text;
 mod schema_fault;
 mod schema_json;
+mod spec_fault;
+mod spec_json;
+mod transform_text;
 
 pub use schema_fault::SchemaJsonFault;
 pub use schema_json::read_table_schema;
+pub use spec_fault::{SpecFault, TransformFault};
+pub use spec_json::read_spec;
+pub use transform_text::read_transform;
