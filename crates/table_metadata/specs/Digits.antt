@@ -1,5 +1,5 @@
 -- Decimal numbers in texts.
-use Rattle.std.specs.Prelude.{ℕ, ◌+◌, ◌-◌, ◌*◌, ◌^◌, min, ◌&&◌, nat_le, nat_eq, if◌then◌else◌, List, [], ◌∷◌, Bool, Option, Some, None}
+use Rattle.std.specs.Prelude.{ℕ, ◌+◌, ◌-◌, ◌*◌, ◌^◌, min, ◌&&◌, nat_le, nat_eq, if◌then◌else◌, List, [], ◌∷◌, length, Bool, false, Option, Some, None, option_and_then}
 
 abbrev pub is_digit : ℕ → Bool
 is_digit b = nat_le 48 b && nat_le b 57
@@ -28,3 +28,12 @@ after_text (p ∷ ps) (b ∷ bs) = if nat_eq b p then after_text ps bs else None
 unfoldable pub after_blanks : List ℕ → List ℕ
 after_blanks [] = []
 after_blanks (b ∷ bs) = if nat_eq b 32 then after_blanks bs else (if nat_eq b 9 then after_blanks bs else b ∷ bs)
+
+abbrev pub has_leading_zero : List ℕ → Bool
+has_leading_zero [] = false
+has_leading_zero (b ∷ []) = false
+has_leading_zero (b ∷ c ∷ cs) = nat_eq b 48
+
+-- the number that the whole text is, without a leading zero
+unfoldable pub whole_number : List ℕ → Option ℕ
+whole_number text = if has_leading_zero text then None else option_and_then (λ n. if nat_eq (length n.1) 0 then Some n.0 else None) (number_at text)

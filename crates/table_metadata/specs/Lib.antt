@@ -1,7 +1,13 @@
 pub mod Digits
+pub mod FieldIds
 pub mod Keys
 pub mod KindText
+pub mod MissingKeys
+pub mod Properties
 pub mod SchemaJson
+pub mod SchemaList
+pub mod Snapshots
 pub mod SpecJson
 pub mod Steps
+pub mod TableKeys
 pub mod TransformText

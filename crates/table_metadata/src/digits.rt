@@ -1,6 +1,6 @@
 //! Decimal numbers in texts.
 ghost use Rattle.std.specs.Prelude.{◌≡◌, option_map};
-ghost use Rattle.table_metadata.specs.Digits.{is_digit, number_at, digits_from, after_text, after_blanks};
+ghost use Rattle.table_metadata.specs.Digits.{is_digit, number_at, digits_from, after_text, after_blanks, has_leading_zero, whole_number};
 
 fn is_digit(byte: u8) -> bool
     ensures { result ≡ is_digit byte }
@@ -68,4 +68,25 @@ pub(crate) fn after_blanks(bytes: &[u8]) -> &[u8]
         rest = after;
     }
     rest
+}
+
+fn has_leading_zero(bytes: &[u8]) -> bool
+    ensures { result ≡ has_leading_zero bytes.now }
+{
+    match bytes {
+        [first, _, ..] => *first == b'0',
+        _ => false,
+    }
+}
+
+/// The number that the whole text is, without a leading zero.
+#[tactic(auto, unfolding(crate::specs::Digits::whole_number))]
+pub(crate) fn whole_number(bytes: &[u8]) -> Option<u64>
+    ensures { result ≡ whole_number bytes.now }
+{
+    if has_leading_zero(bytes) {
+        return None;
+    }
+    let (number, rest) = number_at(bytes)?;
+    if rest.is_empty() { Some(number) } else { None }
 }

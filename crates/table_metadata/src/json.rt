@@ -1,7 +1,7 @@
 //! What stands under a key of an object, where it has the form that is asked for.
 ghost use Rattle.std.specs.Prelude.{◌≡◌, option_map};
 ghost use Rattle.serde_json.specs.View.{view, items_view, members_view};
-ghost use Rattle.table_metadata.specs.Keys.{long_at, int_at, in_int, text_at, bool_at, items_at, members_at, item_count};
+ghost use Rattle.table_metadata.specs.Keys.{long_at, int_at, in_int, text_at, bool_at, items_at, members_at, item_count, whole_of, is_id, has_id, has_twice, all_objects};
 
 use serde_json::{Map, Value};
 
@@ -60,4 +60,74 @@ pub(crate) fn item_count(items: &[Value]) -> usize
     ensures { result ≡ item_count (items_view items.now) }
 {
     items.len()
+}
+
+/// A whole number, also one above `i64::MAX`.
+pub(crate) fn whole_of(json: &Value) -> Option<i128>
+    ensures { result ≡ whole_of (view json.now) }
+{
+    if let Some(number) = json.as_u64() {
+        return Some(i128::from(number));
+    }
+    match json.as_i64() {
+        Some(number) => Some(i128::from(number)),
+        None => None,
+    }
+}
+
+/// Whether the value under the key of this element is the number.
+fn is_id(key: &str, id: i64, json: &Value) -> bool
+    ensures { result ≡ is_id key.now id (view json.now) }
+{
+    match long_at(json, key) {
+        Some(number) => number == id,
+        None => false,
+    }
+}
+
+/// Whether an element has the number under the key.
+#[tactic(auto, unfolding(crate::specs::Keys::has_id))]
+pub(crate) fn has_id(key: &str, id: i64, items: &[Value]) -> bool
+    ensures { result ≡ has_id key.now id (items_view items.now) }
+{
+    let mut rest = items;
+    while let [first, after @ ..] = rest {
+        if is_id(key, id, first) {
+            return true;
+        }
+        rest = after;
+    }
+    false
+}
+
+/// Whether two elements have one number under the key.
+#[tactic(auto, unfolding(crate::specs::Keys::has_twice))]
+pub(crate) fn has_twice(key: &str, items: &[Value]) -> bool
+    ensures { result ≡ has_twice key.now (items_view items.now) }
+{
+    let mut rest = items;
+    while let [first, after @ ..] = rest {
+        if let Some(id) = long_at(first, key) {
+            if has_id(key, id, after) {
+                return true;
+            }
+        }
+        rest = after;
+    }
+    false
+}
+
+/// Whether each element is an object.
+#[tactic(auto, unfolding(crate::specs::Keys::all_objects))]
+pub(crate) fn all_objects(items: &[Value]) -> bool
+    ensures { result ≡ all_objects (items_view items.now) }
+{
+    let mut rest = items;
+    while let [first, after @ ..] = rest {
+        if !first.is_object() {
+            return false;
+        }
+        rest = after;
+    }
+    true
 }

@@ -2,16 +2,26 @@
 #![tactic(auto)]
 
 mod digits;
+mod field_ids;
 mod json;
 mod kind_text;
+mod metadata_fault;
+mod missing_keys;
+mod properties;
 mod schema_fault;
 mod schema_json;
+mod schema_list;
+mod snapshots;
 mod spec_fault;
 mod spec_json;
+mod table_keys;
 mod transform_text;
 
+pub use metadata_fault::MetadataFault;
+pub use properties::{Properties, WriteMode};
 pub use schema_fault::SchemaJsonFault;
 pub use schema_json::read_table_schema;
+pub use snapshots::Snapshot;
 pub use spec_fault::{SpecFault, TransformFault};
 pub use spec_json::read_spec;
 pub use transform_text::read_transform;
