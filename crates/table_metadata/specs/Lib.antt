@@ -2,8 +2,10 @@ pub mod Digits
 pub mod FieldIds
 pub mod Keys
 pub mod KindText
+pub mod Metadata
 pub mod MissingKeys
 pub mod Properties
+pub mod References
 pub mod SchemaJson
 pub mod SchemaList
 pub mod Snapshots

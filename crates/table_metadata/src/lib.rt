@@ -3,11 +3,15 @@
 
 mod digits;
 mod field_ids;
+mod floats;
 mod json;
 mod kind_text;
+mod metadata;
 mod metadata_fault;
 mod missing_keys;
 mod properties;
+mod reading;
+mod references;
 mod schema_fault;
 mod schema_json;
 mod schema_list;
@@ -17,8 +21,11 @@ mod spec_json;
 mod table_keys;
 mod transform_text;
 
+pub use metadata::Metadata;
 pub use metadata_fault::MetadataFault;
 pub use properties::{Properties, WriteMode};
+pub use reading::read_metadata;
+pub use references::RefItem;
 pub use schema_fault::SchemaJsonFault;
 pub use schema_json::read_table_schema;
 pub use snapshots::Snapshot;
