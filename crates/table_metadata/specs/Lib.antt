@@ -1,0 +1,15 @@
+pub mod Digits
+pub mod FieldIds
+pub mod Keys
+pub mod KindText
+pub mod Metadata
+pub mod MissingKeys
+pub mod Properties
+pub mod References
+pub mod SchemaJson
+pub mod SchemaList
+pub mod Snapshots
+pub mod SpecJson
+pub mod Steps
+pub mod TableKeys
+pub mod TransformText

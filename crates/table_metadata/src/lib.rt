@@ -1,0 +1,34 @@
+//! Reads the JSON of an Iceberg table's metadata, of its schemas and of its partition specs.
+#![tactic(auto)]
+
+mod digits;
+mod field_ids;
+mod floats;
+mod json;
+mod kind_text;
+mod metadata;
+mod metadata_fault;
+mod missing_keys;
+mod properties;
+mod reading;
+mod references;
+mod schema_fault;
+mod schema_json;
+mod schema_list;
+mod snapshots;
+mod spec_fault;
+mod spec_json;
+mod table_keys;
+mod transform_text;
+
+pub use metadata::Metadata;
+pub use metadata_fault::MetadataFault;
+pub use properties::{Properties, WriteMode};
+pub use reading::read_metadata;
+pub use references::RefItem;
+pub use schema_fault::SchemaJsonFault;
+pub use schema_json::read_table_schema;
+pub use snapshots::Snapshot;
+pub use spec_fault::{SpecFault, TransformFault};
+pub use spec_json::read_spec;
+pub use transform_text::read_transform;
