@@ -6,6 +6,7 @@
 #![tactic(auto)]
 
 mod bytes;
+pub mod digits;
 mod laws;
 mod list;
 mod order;
