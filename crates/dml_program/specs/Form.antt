@@ -1,0 +1,58 @@
+-- The tables that are read so far: of format version 2, with columns of `long` and `string` in the current schema, specs
+-- without fields, every property of writes at its default, no ref but `main`, within the limits, and without a snapshot.
+use Rattle.std.specs.Prelude.{ℕ, ℤ, pos, ◌^◌, Bool, true, false, not, ◌&&◌, ◌==◌, nat_eq, nat_lt, nat_le, int_lt, codes, List, length, Option, is_some, Result, Ok, Err, if◌then◌else◌}
+use Rattle.std.specs.List.{list_all}
+use Rattle.std.specs.Ordering.{int_eq}
+use Rattle.std.specs.Cmp.Lexicographic.{pointwise}
+use Rattle.row_values.specs.declared.kind.Kind.{Kind}
+use Rattle.row_values.specs.declared.kind.Kind.TheVariants as kind
+use Rattle.row_values.specs.declared.schema.TableSchema.{TableSchema}
+use Rattle.row_values.specs.declared.schema.Column.{Column}
+use Rattle.row_values.specs.declared.partition.Spec.{Spec}
+use Rattle.table_metadata.specs.Metadata.{Parts, metadata_of}
+use Rattle.table_metadata.specs.declared.metadata_fault.MetadataFault.{MetadataFault}
+use Rattle.table_metadata.specs.declared.properties.Properties.{Properties}
+use Rattle.table_metadata.specs.declared.properties.WriteMode.{WriteMode}
+use Rattle.table_metadata.specs.declared.references.RefItem.{RefItem}
+
+abbrev pub is_plain_kind : Kind → Bool
+is_plain_kind kind.Long = true
+is_plain_kind kind.Text = true
+is_plain_kind _ = false
+
+abbrev pub is_plain_column : Column → Bool
+is_plain_column column = is_plain_kind column.kind
+
+-- the schema has plain columns, where it is the current one
+abbrev pub is_plain_schema : ℤ → TableSchema → Bool
+is_plain_schema current schema = if int_eq schema.id current then list_all is_plain_column schema.columns else true
+
+abbrev pub is_unpartitioned : Spec → Bool
+is_unpartitioned spec = length spec.fields == 0
+
+-- copy-on-write, at the serializable level
+abbrev pub is_plain_mode : WriteMode → Bool
+is_plain_mode mode = not mode.on_read && not mode.snapshot_level
+
+abbrev pub is_plain_writing : Properties → Bool
+is_plain_writing p = is_plain_mode p.delete && is_plain_mode p.update && is_plain_mode p.merge && p.retries == 4 && p.least_to_merge == 100 && p.merge_enabled
+
+abbrev pub is_main : RefItem → Bool
+is_main ref = pointwise nat_eq ref.name (codes "main")
+
+-- the version, its sequence number and the length of its location
+abbrev pub is_within_limits : ℕ → Parts → Bool
+is_within_limits version p = nat_lt version (2 ^ 31) && int_lt p.last_sequence (pos (2 ^ 62)) && nat_le (length p.location) 4096
+
+abbrev pub has_form : ℕ → Parts → Bool
+has_form version p =
+    is_within_limits version p && list_all (is_plain_schema p.current_schema) p.schemas && list_all is_unpartitioned p.specs && is_plain_writing p.properties && list_all is_main p.refs
+    && not (is_some p.current_snapshot)
+
+abbrev pub form_of : ℕ → Result Parts MetadataFault → Bool
+form_of version (Ok p) = has_form version p
+form_of version (Err fault) = false
+
+-- the bytes of a version's metadata are of the form
+abbrev pub is_in_form : ℕ → List ℕ → Bool
+is_in_form version bytes = form_of version (metadata_of bytes)
