@@ -32,6 +32,7 @@ unfoldable pub specs_from : List Column → List Spec → Items → Result (List
 specs_from columns earlier no_items = Ok earlier
 specs_from columns earlier (item d ds) = fault_as fault.Spec (spec_of columns d) >>= λ spec. specs_from columns (earlier ++ spec ∷ []) ds
 
+-- The current schema is among them, since its id was found before.
 unfoldable pub specs_of : ℤ → List TableSchema → Data → Result (List Spec) MetadataFault
 specs_of current schemas d = do
   columns ← shaped (codes "current-schema-id") (columns_with current schemas)

@@ -10,6 +10,9 @@ use row_values::{Column, Kind, List, PartField, Spec, TableSchema, Text, Transfo
 use serde_json::Value;
 use std::alloc::Global;
 
+/// The project's limit.
+const MAX_FIELDS: usize = 16;
+
 /// Reads a spec over the columns of a schema, or tells the first fault: of the spec's own keys, of the number of fields,
 /// then of the first field that has one.
 #[tactic(auto, unfolding(crate::specs::SpecJson::spec_of))]
@@ -24,7 +27,7 @@ pub fn read_spec(alloc: Global, json: &Value, schema: &TableSchema) -> Result<Sp
         return Err(missing(alloc, "fields"));
     };
     let count = item_count(items);
-    if count > 16 {
+    if count > MAX_FIELDS {
         return Err(SpecFault::Fields(count));
     }
     let fields = read_fields(alloc, schema.columns.as_slice(), items)?;
