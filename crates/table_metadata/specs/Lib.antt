@@ -1,3 +1,4 @@
+pub mod Coherent
 pub mod Digits
 pub mod FieldIds
 pub mod Keys

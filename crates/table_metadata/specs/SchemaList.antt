@@ -1,6 +1,6 @@
 -- All schemas and all partition specs of a table (Iceberg specification, "Table Metadata Fields"). Each spec is read over
 -- the columns of the current schema.
-use Rattle.std.specs.Prelude.{ℤ, codes, List, [], ◌∷◌, ◌++◌, Option, Some, None, Result, Ok, Err, if◌then◌else◌}
+use Rattle.std.specs.Prelude.{ℤ, codes, List, [], ◌∷◌, ◌++◌, Option, Some, None, Result, Ok, if◌then◌else◌}
 use Rattle.std.specs.Ordering.{int_eq}
 use Rattle.serde_json.specs.Data.{Data, Items, no_items, item}
 use Rattle.row_values.specs.declared.schema.Column.{Column}
@@ -12,7 +12,7 @@ use Rattle.table_metadata.specs.Keys.{items_at}
 use Rattle.table_metadata.specs.SchemaJson.{table_schema_of}
 use Rattle.table_metadata.specs.SpecJson.{spec_of}
 use Rattle.table_metadata.specs.TableKeys.{shaped}
-use Rattle.table_metadata.specs.Steps.{◌>>=◌, fault_as, by_option}
+use Rattle.table_metadata.specs.Steps.{◌>>=◌, fault_as}
 
 -- the schemas of these elements, behind those that are read
 unfoldable pub schemas_from : List TableSchema → Items → Result (List TableSchema) MetadataFault
