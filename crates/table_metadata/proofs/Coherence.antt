@@ -22,7 +22,7 @@ pub two_steps : {A B E : Type 0} → (r : Result A E) (f : A → Result B E) (b 
 two_steps (Ok a) f b h = (a, refl, h)
 two_steps (Err e) f b h = cc
 
-one_value : {A E : Type 0} → (a b : A) (r : Result A E) → r ≡ Ok a → r ≡ Ok b → a ≡ b
+pub one_value : {A E : Type 0} → (a b : A) (r : Result A E) → r ≡ Ok a → r ≡ Ok b → a ≡ b
 one_value a b r h k = cc
 
 is_there : {A E : Type 0} → (e : E) (o : Option A) (a : A) → or_fault e o ≡ Ok a → IsSome o

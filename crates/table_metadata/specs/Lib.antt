@@ -10,6 +10,7 @@ pub mod References
 pub mod SchemaJson
 pub mod SchemaList
 pub mod Snapshots
+pub mod SoundSchema
 pub mod SpecJson
 pub mod Steps
 pub mod TableKeys

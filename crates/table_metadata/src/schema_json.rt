@@ -1,6 +1,7 @@
 //! Schemas as JSON.
 ghost use Rattle.std.specs.Prelude.{◌≡◌, ◌≢◌, [], IfOk, IfErr, Ok, Err};
 ghost use Rattle.serde_json.specs.View.{view, items_view};
+ghost use Rattle.table_metadata.specs.SoundSchema.{IsSoundSchema};
 ghost use Rattle.table_metadata.specs.SchemaJson.{is_reserved, has_id, has_name, column_of, columns_of, table_schema_of};
 
 use crate::SchemaJsonFault;
@@ -25,6 +26,7 @@ const LAST_RESERVED_ID: i32 = 2147483546;
 #[tactic(auto, unfolding(crate::specs::SchemaJson::table_schema_of))]
 pub fn read_table_schema(alloc: Global, json: &Value) -> Result<TableSchema, SchemaJsonFault>
     ensures ok { IfOk result (λ s. table_schema_of (view json.now) ≡ Ok s) }
+    ensures sound { IfOk result (λ s. IsSoundSchema s) }
     ensures err { IfErr result (λ f. f ≢ SchemaJsonFault.Memory → table_schema_of (view json.now) ≡ Err f) }
 {
     let Some(id) = int_at(json, "schema-id") else {
