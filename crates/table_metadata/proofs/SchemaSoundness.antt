@@ -16,7 +16,7 @@ use Rattle.table_metadata.specs.Steps.{or_fault, fault_if}
 use Rattle.table_metadata.proofs.Coherence.{two_steps, one_value}
 
 -- no test that answered a fault held
-untested : {E : Type 0} → (e : E) (b : Bool) (a : ⊤) → fault_if e b ≡ Ok a → b ≡ false
+pub untested : {E : Type 0} → (e : E) (b : Bool) (a : ⊤) → fault_if e b ≡ Ok a → b ≡ false
 untested e false a h = refl
 untested e true a h = cc
 
@@ -39,7 +39,7 @@ none_pushed p (x ∷ xs) c h k =
     both_of (p x) (list_any p (xs ++ c ∷ [])) (first_of (p x) (list_any p xs) h) (none_pushed p xs c (second_of (p x) (list_any p xs) h) k)
 
 -- one more at the end that is the same as none before
-apart_pushed : {X : Type 0} → (same : X → X → Bool) (xs : List X) (c : X) → Apart same xs → list_any (λ x. same x c) xs ≡ false → Apart same (xs ++ c ∷ [])
+pub apart_pushed : {X : Type 0} → (same : X → X → Bool) (xs : List X) (c : X) → Apart same xs → list_any (λ x. same x c) xs ≡ false → Apart same (xs ++ c ∷ [])
 apart_pushed same [] c h k = (refl, tt)
 apart_pushed same (x ∷ xs) c h k = (
   none_pushed (same x) xs c h.0 (first_of (same x c) (list_any (λ y. same y c) xs) k),

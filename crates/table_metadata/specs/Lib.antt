@@ -11,6 +11,7 @@ pub mod SchemaJson
 pub mod SchemaList
 pub mod Snapshots
 pub mod SoundSchema
+pub mod SoundSpec
 pub mod SpecJson
 pub mod Steps
 pub mod TableKeys

@@ -1,6 +1,7 @@
 //! Partition specs as JSON.
 ghost use Rattle.std.specs.Prelude.{◌≡◌, ◌≢◌, [], IfOk, IfErr, Ok, Err};
 ghost use Rattle.serde_json.specs.View.{view, items_view};
+ghost use Rattle.table_metadata.specs.SoundSpec.{IsSoundSpec};
 ghost use Rattle.table_metadata.specs.SpecJson.{takes, is_void, is_time, is_day_or_time, is_hashed, is_truncated, kind_of_column, source_fits, has_field, field_of, fields_of, spec_of};
 
 use crate::SpecFault;
@@ -18,6 +19,7 @@ const MAX_FIELDS: usize = 16;
 #[tactic(auto, unfolding(crate::specs::SpecJson::spec_of))]
 pub fn read_spec(alloc: Global, json: &Value, schema: &TableSchema) -> Result<Spec, SpecFault>
     ensures ok { IfOk result (λ s. spec_of schema.now.columns (view json.now) ≡ Ok s) }
+    ensures sound { IfOk result (λ s. IsSoundSpec schema.now.columns s) }
     ensures err { IfErr result (λ f. f ≢ SpecFault.Memory → spec_of schema.now.columns (view json.now) ≡ Err f) }
 {
     let Some(id) = int_at(json, "spec-id") else {
