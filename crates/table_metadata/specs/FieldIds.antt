@@ -1,7 +1,7 @@
 -- What holds of the field ids of all schemas and specs of a table together (Iceberg specification, "Table Metadata
 -- Fields" and "Schema Evolution"): none is above the last one that was given out, and a column keeps its kind, save for
 -- the widenings from int to long and of a decimal's precision.
-use Rattle.std.specs.Prelude.{ℕ, ℤ, not, ◌&&◌, nat_eq, int_lt, codes, List, Bool, true, false, Result, Ok, Err, ⊤, if◌then◌else◌}
+use Rattle.std.specs.Prelude.{ℤ, not, nat_eq, int_lt, codes, List, Bool, true, false, Result, ⊤, if◌then◌else◌}
 use Rattle.std.specs.Bool.{beq}
 use Rattle.std.specs.Ordering.{int_eq}
 use Rattle.std.specs.List.{list_any}

@@ -1,3 +1,4 @@
+pub mod Coherent
 pub mod Digits
 pub mod FieldIds
 pub mod Keys
@@ -9,6 +10,8 @@ pub mod References
 pub mod SchemaJson
 pub mod SchemaList
 pub mod Snapshots
+pub mod SoundSchema
+pub mod SoundSpec
 pub mod SpecJson
 pub mod Steps
 pub mod TableKeys

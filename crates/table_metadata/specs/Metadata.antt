@@ -1,7 +1,7 @@
 -- What the bytes of a metadata file say (Iceberg specification, "Table Metadata Fields" and Appendix C, "Table Metadata and
 -- Snapshots"), or the first fault. Faults are looked for class by class over the whole of it: a key that is absent, the
 -- form of the keys, the schemas, the partition specs, what holds of all their ids together, the properties, the refs.
-use Rattle.std.specs.Prelude.{◌≡◌, ℕ, ℤ, List, Bool, Option, Some, None, is_some, Result, Ok, Err, if◌then◌else◌}
+use Rattle.std.specs.Prelude.{◌≡◌, ℕ, ℤ, List, Option, is_some, Result, Ok, Err, if◌then◌else◌}
 use Rattle.std.specs.Str.{is_utf8}
 use Rattle.serde_json.specs.Data.{Data}
 use Rattle.serde_json.specs.Find.{as_object}

@@ -1,7 +1,8 @@
 -- Which needed key of a table's metadata is absent (Iceberg specification, "Table Metadata Fields", "Snapshots" and
 -- "Snapshot References"), and whether the metadata is of format version 2. The version comes before every other key, since
--- it says which keys there are.
-use Rattle.std.specs.Prelude.{ℕ, ℤ, pos, not, codes, List, Result, Ok, Err, ⊤, is_some, option_and_then, if◌then◌else◌}
+-- it says which keys there are. Then come the table's own keys, those of the snapshots and those of the refs; of a list, the
+-- first element that lacks a key.
+use Rattle.std.specs.Prelude.{ℕ, pos, not, codes, List, Result, Ok, Err, ⊤, is_some, option_and_then, if◌then◌else◌}
 use Rattle.std.specs.Ordering.{int_eq}
 use Rattle.serde_json.specs.Data.{Data, Items, no_items, item, Members, no_members, member}
 use Rattle.serde_json.specs.Find.{get, as_object}

@@ -1,16 +1,15 @@
 -- Table properties (Iceberg's Spark documentation, "Writes", and its table configuration, "Write properties" and "Table
 -- behavior properties"): those that say how rows are changed and how a commit is tried. Other properties are kept unread.
-use Rattle.std.specs.Prelude.{ℕ, ◌+◌, not, ◌&&◌, nat_eq, nat_le, max, codes, List, [], ◌∷◌, length, Bool, true, false, Option, Some, None, Result, Ok, Err, option_and_then, if◌then◌else◌}
+use Rattle.std.specs.Prelude.{ℕ, not, nat_eq, nat_le, max, codes, List, Bool, true, false, Option, Result, Ok, Err, option_and_then, if◌then◌else◌}
 use Rattle.std.specs.Cmp.Lexicographic.{pointwise}
 use Rattle.serde_json.specs.Data.{Data}
 use Rattle.serde_json.specs.Find.{get}
 use Rattle.table_metadata.specs.declared.metadata_fault.MetadataFault.{MetadataFault}
 use Rattle.table_metadata.specs.declared.metadata_fault.MetadataFault.TheVariants as fault
 use Rattle.table_metadata.specs.declared.properties.Properties.{Properties}
-use Rattle.table_metadata.specs.declared.properties.WriteMode.{WriteMode}
 use Rattle.table_metadata.specs.Digits.{whole_number}
 use Rattle.table_metadata.specs.Keys.{text_at}
-use Rattle.table_metadata.specs.Steps.{◌>>=◌, or_fault, fault_if, by_option}
+use Rattle.table_metadata.specs.Steps.{◌>>=◌, or_fault, by_option}
 
 -- the property's text
 abbrev pub property_at : List ℕ → Data → Option (List ℕ)

@@ -1,6 +1,6 @@
 -- Branches and tags (Iceberg specification, "Snapshot References"). Where `main` is not listed, it is the current snapshot
 -- as a branch. Refs stand in byte order of their names.
-use Rattle.std.specs.Prelude.{ℕ, suc, ℤ, not, nat_eq, codes, List, [], ◌∷◌, ◌++◌, Bool, true, false, Option, Some, None, Result, Ok, Err, ⊤, if◌then◌else◌}
+use Rattle.std.specs.Prelude.{ℕ, suc, ℤ, not, nat_eq, codes, List, [], ◌∷◌, ◌++◌, Bool, true, false, Option, Result, Ok, Err, ⊤, if◌then◌else◌}
 use Rattle.std.specs.Ordering.{int_eq, nat_cmp, is_lt}
 use Rattle.std.specs.List.{list_any, insert}
 use Rattle.std.specs.Cmp.Lexicographic.{pointwise, slice_cmp}

@@ -1,6 +1,6 @@
 -- A schema as JSON (Iceberg specification, Appendix C, "Schemas"), and the first fault that a reading meets. The greatest
 -- number of columns and the longest name are the project's limits.
-use Rattle.std.specs.Prelude.{ℕ, ℤ, pos, int_le, ◌&&◌, ◌||◌, nat_eq, nat_lt, codes, List, [], ◌∷◌, ◌++◌, length, Bool, Result, Ok, Err, if◌then◌else◌}
+use Rattle.std.specs.Prelude.{ℕ, ℤ, pos, int_le, ◌&&◌, ◌||◌, nat_eq, nat_lt, codes, List, [], ◌∷◌, ◌++◌, length, Bool, Result, Ok}
 use Rattle.std.specs.Ordering.{int_eq}
 use Rattle.std.specs.List.{list_any}
 use Rattle.std.specs.Cmp.Lexicographic.{pointwise}

@@ -1,6 +1,6 @@
 -- All schemas and all partition specs of a table (Iceberg specification, "Table Metadata Fields"). Each spec is read over
 -- the columns of the current schema.
-use Rattle.std.specs.Prelude.{ℤ, codes, List, [], ◌∷◌, ◌++◌, Option, Some, None, Result, Ok, Err, if◌then◌else◌}
+use Rattle.std.specs.Prelude.{ℤ, codes, List, [], ◌∷◌, ◌++◌, Option, Some, None, Result, Ok, if◌then◌else◌}
 use Rattle.std.specs.Ordering.{int_eq}
 use Rattle.serde_json.specs.Data.{Data, Items, no_items, item}
 use Rattle.row_values.specs.declared.schema.Column.{Column}
@@ -12,7 +12,7 @@ use Rattle.table_metadata.specs.Keys.{items_at}
 use Rattle.table_metadata.specs.SchemaJson.{table_schema_of}
 use Rattle.table_metadata.specs.SpecJson.{spec_of}
 use Rattle.table_metadata.specs.TableKeys.{shaped}
-use Rattle.table_metadata.specs.Steps.{◌>>=◌, fault_as, by_option}
+use Rattle.table_metadata.specs.Steps.{◌>>=◌, fault_as}
 
 -- the schemas of these elements, behind those that are read
 unfoldable pub schemas_from : List TableSchema → Items → Result (List TableSchema) MetadataFault
@@ -32,6 +32,7 @@ unfoldable pub specs_from : List Column → List Spec → Items → Result (List
 specs_from columns earlier no_items = Ok earlier
 specs_from columns earlier (item d ds) = fault_as fault.Spec (spec_of columns d) >>= λ spec. specs_from columns (earlier ++ spec ∷ []) ds
 
+-- The current schema is among them, since its id was found before.
 unfoldable pub specs_of : ℤ → List TableSchema → Data → Result (List Spec) MetadataFault
 specs_of current schemas d = do
   columns ← shaped (codes "current-schema-id") (columns_with current schemas)

@@ -1,5 +1,5 @@
 -- Snapshots (Iceberg specification, "Snapshots"), and their keys' forms. Of a snapshot's summary the operation is read.
-use Rattle.std.specs.Prelude.{ℕ, ℤ, codes, List, [], ◌∷◌, ◌++◌, Option, Some, None, Result, Ok, Err, option_and_then, if◌then◌else◌}
+use Rattle.std.specs.Prelude.{ℕ, ℤ, codes, List, [], ◌∷◌, ◌++◌, Option, Some, None, Result, Ok, option_and_then}
 use Rattle.serde_json.specs.Data.{Data, Items, no_items, item}
 use Rattle.serde_json.specs.Find.{get, as_str, as_object}
 use Rattle.table_metadata.specs.declared.metadata_fault.MetadataFault.{MetadataFault}

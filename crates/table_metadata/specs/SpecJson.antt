@@ -1,13 +1,12 @@
 -- A partition spec as JSON (Iceberg specification, Appendix C, "Partition Specs"), and the first fault that a reading
 -- meets. The greatest number of fields is the project's limit.
-use Rattle.std.specs.Prelude.{ℕ, ℤ, not, nat_eq, nat_lt, codes, List, [], ◌∷◌, ◌++◌, Bool, true, false, Option, Some, None, Result, Ok, Err, ⊤, if◌then◌else◌}
+use Rattle.std.specs.Prelude.{ℤ, not, nat_lt, codes, List, [], ◌∷◌, ◌++◌, Bool, true, false, Option, Some, None, Result, Ok, Err, ⊤, if◌then◌else◌}
 use Rattle.std.specs.Ordering.{int_eq}
 use Rattle.std.specs.List.{list_any}
 use Rattle.serde_json.specs.Data.{Data, Items, no_items, item}
 use Rattle.row_values.specs.declared.kind.Kind.{Kind}
 use Rattle.row_values.specs.declared.kind.Kind.TheVariants as kind
 use Rattle.row_values.specs.declared.schema.Column.{Column}
-use Rattle.row_values.specs.declared.schema.TableSchema.{TableSchema}
 use Rattle.row_values.specs.declared.partition.Transform.{Transform}
 use Rattle.row_values.specs.declared.partition.Transform.TheVariants as transform
 use Rattle.row_values.specs.declared.partition.PartField.{PartField}

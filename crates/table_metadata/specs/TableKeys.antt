@@ -1,7 +1,8 @@
 -- The form of what stands under the keys of a table's metadata (Iceberg specification, "Table Metadata Fields"). A key
 -- whose value has another form is the fault, the first in the order below. `current-snapshot-id` may be null or -1, as older
--- writers put it where the table has no snapshot; an optional key that is null has the wrong form.
-use Rattle.std.specs.Prelude.{ℕ, ℤ, neg_ℤ, pos, not, ◌&&◌, ◌||◌, codes, List, Bool, true, false, Option, Some, None, is_some, Result, Ok, Err, ⊤, option_and_then, if◌then◌else◌}
+-- writers put it where the table has no snapshot; an optional key that is null has the wrong form. The keys of the snapshots
+-- and of the refs come after these.
+use Rattle.std.specs.Prelude.{ℕ, ℤ, neg_ℤ, pos, not, codes, List, Bool, true, false, Option, Some, None, is_some, Result, Ok, ⊤, option_and_then, if◌then◌else◌}
 use Rattle.std.specs.Ordering.{int_eq}
 use Rattle.serde_json.specs.Data.{Data, Items, Members, no_members, member}
 use Rattle.serde_json.specs.Find.{get, as_null, as_str, as_array, as_object}

@@ -1,6 +1,6 @@
 -- The texts of partition transforms (Iceberg specification, Appendix C, "Partition Specs"). The four of time are also
 -- read in the plural, as older writers spell them.
-use Rattle.std.specs.Prelude.{ℕ, ◌-◌, ◌^◌, ◌&&◌, ◌||◌, not, nat_eq, nat_le, codes, List, [], length, Bool, Option, Some, None, Result, Ok, Err, if◌then◌else◌}
+use Rattle.std.specs.Prelude.{ℕ, ◌-◌, ◌^◌, ◌&&◌, ◌||◌, not, nat_eq, nat_le, codes, List, length, Bool, Result, Ok, Err, if◌then◌else◌}
 use Rattle.std.specs.Cmp.Lexicographic.{pointwise}
 use Rattle.row_values.specs.declared.partition.Transform.{Transform}
 use Rattle.row_values.specs.declared.partition.Transform.TheVariants as transform

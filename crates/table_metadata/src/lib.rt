@@ -1,4 +1,10 @@
-//! Reads the JSON of an Iceberg table's metadata, of its schemas and of its partition specs.
+//! Reads the JSON of an Iceberg table's metadata of format version 2, of its schemas and of its partition specs.
+//!
+//! Each call answers exactly what `specs/` says of the JSON, a value or its first fault, or else want of memory. Each reading
+//! function has a definition of its own there, of the same shape and mostly of the same name, and the passes of
+//! `read_metadata` are its steps in order, so that a class of faults is looked for only where the whole file is free of
+//! the earlier ones. What is read is sound whatever the bytes: schemas and specs alone (`SoundSchema`, `SoundSpec`), and the
+//! whole together (`Coherent`).
 #![tactic(auto)]
 
 mod digits;
@@ -19,6 +25,8 @@ mod snapshots;
 mod spec_fault;
 mod spec_json;
 mod table_keys;
+#[cfg(test)]
+mod tests;
 mod transform_text;
 
 pub use metadata::Metadata;

@@ -10,6 +10,12 @@ use row_values::Text;
 use serde_json::Value;
 use std::alloc::Global;
 
+const DEFAULT_RETRIES: u32 = 4;
+
+const MAX_RETRIES: u64 = 1000;
+
+const DEFAULT_LEAST_TO_MERGE: u64 = 100;
+
 /// How a statement changes rows: by files of deleted positions that are merged on reading, or by new copies of the data
 /// files; and what a commit is checked against, the snapshot alone or a serial order.
 #[derive(Debug, PartialEq, Drop)]
@@ -112,12 +118,12 @@ fn read_retries(alloc: Global, json: &Value) -> Result<u32, MetadataFault>
     ensures err { IfErr result (λ f. f ≢ MetadataFault.Memory → retries_of (view json.now) ≡ Err f) }
 {
     let Some(text) = property_at(json, "commit.retry.num-retries") else {
-        return Ok(4);
+        return Ok(DEFAULT_RETRIES);
     };
     let Some(number) = whole_number(text.as_bytes()) else {
         return Err(bad(alloc, "commit.retry.num-retries"));
     };
-    if number <= 1000 {
+    if number <= MAX_RETRIES {
         Ok(number as u32)
     } else {
         Err(bad(alloc, "commit.retry.num-retries"))
@@ -131,7 +137,7 @@ fn read_least_to_merge(alloc: Global, json: &Value) -> Result<u64, MetadataFault
     ensures err { IfErr result (λ f. f ≢ MetadataFault.Memory → least_to_merge_of (view json.now) ≡ Err f) }
 {
     let Some(text) = property_at(json, "commit.manifest.min-count-to-merge") else {
-        return Ok(100);
+        return Ok(DEFAULT_LEAST_TO_MERGE);
     };
     match whole_number(text.as_bytes()) {
         Some(number) => Ok(number.max(2)),

@@ -1,6 +1,7 @@
 //! Reads a metadata file.
 ghost use Rattle.std.specs.Prelude.{◌≡◌, ◌≢◌, IfOk, IfErr, Ok, Err};
 ghost use Rattle.serde_json.specs.View.{view};
+ghost use Rattle.table_metadata.specs.Coherent.{IsCoherent};
 ghost use Rattle.table_metadata.specs.Metadata.{IsMetadataOf, metadata_of, json_of, whole_object, parts_of, parts};
 
 use crate::field_ids::field_ids_fit;
@@ -20,6 +21,7 @@ use std::alloc::Global;
 #[tactic(auto, unfolding(crate::specs::Metadata::metadata_of))]
 pub fn read_metadata(alloc: Global, bytes: &[u8]) -> Result<Metadata, MetadataFault>
     ensures ok { IfOk result (λ m. IsMetadataOf bytes.now m) }
+    ensures coherent { IfOk result (λ m. IsCoherent (parts m)) }
     ensures err { IfErr result (λ f. f ≢ MetadataFault.Memory → metadata_of bytes.now ≡ Err f) }
 {
     let json = read_json(alloc, bytes)?;

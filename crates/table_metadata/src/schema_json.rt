@@ -1,6 +1,7 @@
 //! Schemas as JSON.
 ghost use Rattle.std.specs.Prelude.{◌≡◌, ◌≢◌, [], IfOk, IfErr, Ok, Err};
 ghost use Rattle.serde_json.specs.View.{view, items_view};
+ghost use Rattle.table_metadata.specs.SoundSchema.{IsSoundSchema};
 ghost use Rattle.table_metadata.specs.SchemaJson.{is_reserved, has_id, has_name, column_of, columns_of, table_schema_of};
 
 use crate::SchemaJsonFault;
@@ -10,11 +11,22 @@ use row_values::{Column, List, TableSchema, Text};
 use serde_json::Value;
 use std::alloc::Global;
 
+/// The project's limits.
+const MAX_COLUMNS: usize = 256;
+
+const MAX_NAME_BYTES: usize = 4096;
+
+/// The ids of a position delete file's columns.
+const FIRST_RESERVED_ID: i32 = 2147483544;
+
+const LAST_RESERVED_ID: i32 = 2147483546;
+
 /// Reads a schema, or tells the first fault: of the schema's own keys, of the number of columns, then of the first column
 /// that has one.
 #[tactic(auto, unfolding(crate::specs::SchemaJson::table_schema_of))]
 pub fn read_table_schema(alloc: Global, json: &Value) -> Result<TableSchema, SchemaJsonFault>
     ensures ok { IfOk result (λ s. table_schema_of (view json.now) ≡ Ok s) }
+    ensures sound { IfOk result (λ s. IsSoundSchema s) }
     ensures err { IfErr result (λ f. f ≢ SchemaJsonFault.Memory → table_schema_of (view json.now) ≡ Err f) }
 {
     let Some(id) = int_at(json, "schema-id") else {
@@ -24,7 +36,7 @@ pub fn read_table_schema(alloc: Global, json: &Value) -> Result<TableSchema, Sch
         return Err(missing(alloc, "fields"));
     };
     let count = item_count(fields);
-    if count == 0 || count > 256 {
+    if count == 0 || count > MAX_COLUMNS {
         return Err(SchemaJsonFault::Columns(count));
     }
     let columns = read_columns(alloc, fields)?;
@@ -80,7 +92,7 @@ fn read_column(alloc: Global, earlier: &[Column], json: &Value) -> Result<Column
         return Err(SchemaJsonFault::Duplicate(id));
     }
     let name_text = Text::copy_of(alloc, name)?;
-    if name.len() > 4096 || has_name(name, earlier) {
+    if name.len() > MAX_NAME_BYTES || has_name(name, earlier) {
         return Err(SchemaJsonFault::Name(name_text));
     }
     Ok(Column {
@@ -95,7 +107,7 @@ fn read_column(alloc: Global, earlier: &[Column], json: &Value) -> Result<Column
 fn is_reserved(id: i32) -> bool
     ensures { result ≡ is_reserved id }
 {
-    2147483544 <= id && id <= 2147483546
+    FIRST_RESERVED_ID <= id && id <= LAST_RESERVED_ID
 }
 
 fn has_id(id: i32, columns: &[Column]) -> bool

@@ -1,6 +1,7 @@
 //! Partition specs as JSON.
 ghost use Rattle.std.specs.Prelude.{◌≡◌, ◌≢◌, [], IfOk, IfErr, Ok, Err};
 ghost use Rattle.serde_json.specs.View.{view, items_view};
+ghost use Rattle.table_metadata.specs.SoundSpec.{IsSoundSpec};
 ghost use Rattle.table_metadata.specs.SpecJson.{takes, is_void, is_time, is_day_or_time, is_hashed, is_truncated, kind_of_column, source_fits, has_field, field_of, fields_of, spec_of};
 
 use crate::SpecFault;
@@ -10,11 +11,15 @@ use row_values::{Column, Kind, List, PartField, Spec, TableSchema, Text, Transfo
 use serde_json::Value;
 use std::alloc::Global;
 
+/// The project's limit.
+const MAX_FIELDS: usize = 16;
+
 /// Reads a spec over the columns of a schema, or tells the first fault: of the spec's own keys, of the number of fields,
 /// then of the first field that has one.
 #[tactic(auto, unfolding(crate::specs::SpecJson::spec_of))]
 pub fn read_spec(alloc: Global, json: &Value, schema: &TableSchema) -> Result<Spec, SpecFault>
     ensures ok { IfOk result (λ s. spec_of schema.now.columns (view json.now) ≡ Ok s) }
+    ensures sound { IfOk result (λ s. IsSoundSpec schema.now.columns s) }
     ensures err { IfErr result (λ f. f ≢ SpecFault.Memory → spec_of schema.now.columns (view json.now) ≡ Err f) }
 {
     let Some(id) = int_at(json, "spec-id") else {
@@ -24,7 +29,7 @@ pub fn read_spec(alloc: Global, json: &Value, schema: &TableSchema) -> Result<Sp
         return Err(missing(alloc, "fields"));
     };
     let count = item_count(items);
-    if count > 16 {
+    if count > MAX_FIELDS {
         return Err(SpecFault::Fields(count));
     }
     let fields = read_fields(alloc, schema.columns.as_slice(), items)?;

@@ -7,6 +7,9 @@ use crate::digits::{after_text, number_at};
 use row_values::Transform;
 use std::alloc::Global;
 
+/// The greatest number of a bucket or truncate transform.
+const MAX_WIDTH: u64 = 2147483647;
+
 /// The transform that a text names.
 #[tactic(auto, unfolding(crate::specs::TransformText::transform_of))]
 pub fn read_transform(_alloc: Global, text: &str) -> Result<Transform, TransformFault>
@@ -61,7 +64,7 @@ fn width_of(bytes: &[u8]) -> Result<u32, TransformFault>
     if !rest.is_empty() {
         return Err(TransformFault::Name);
     }
-    if !(1 <= number && number <= 2147483647) {
+    if !(1 <= number && number <= MAX_WIDTH) {
         return Err(TransformFault::Width);
     }
     Ok(number as u32)

@@ -1,4 +1,4 @@
-use Rattle.std.proofs.Common.{◌≡◌, Bool, true, false, Option, Some, None, is_some, refl}
+use Rattle.std.proofs.Common.{◌≡◌, true, false, Option, Some, None, is_some, refl}
 use Rattle.uuid.specs.Text.{parsed}
 use Rattle.table_metadata.specs.TableKeys.{is_uuid}
 use Rattle.table_metadata.proofs.table_keys.is_uuid.Goals as goal
