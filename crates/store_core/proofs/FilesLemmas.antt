@@ -2,7 +2,7 @@
 use Rattle.std.proofs.lemmas.List.{at_drop_more, map-append}
 use Rattle.std.proofs.Common.{◌≡◌, ℕ, ◌+◌, ◌-◌, ◌<◌, ◌≤◌, Bool, true, false, cond, Option, None, Some, List, [], ◌∷◌, ◌++◌, length, map, take, drop, get_or, refl, sym, ap, subst, ◌∙◌, arith, inl, inr, ◌/◌, is_some}
 use Rattle.std.specs.FinMap as finite
-use Rattle.std.specs.FinMap.{FinMap, entries, len-entries, len-empty, entries-insert, get-insert, get-from_entries, same_map, from_entries_push, slice_cmp-IsAntisymmetric, nat_cmp-IsAntisymmetric, put, find}
+use Rattle.std.specs.FinMap.{FinMap, entries, len-entries, len-empty, get-empty, entries-insert, get-insert, get-from_entries, same_map, from_entries_push, slice_cmp-IsAntisymmetric, nat_cmp-IsAntisymmetric, put, find}
 use Rattle.std.specs.FinMap.Entries.{by_order}
 use Rattle.std.specs.Ordering.{nat_cmp, is_eq}
 use Rattle.std.specs.declared.cmp.Ordering.{Ordering}
@@ -99,3 +99,7 @@ pub kept-left_by_swap : (leave : Leave) (files : Files) (name bytes : List ℕ) 
 kept-left_by_swap Nothing files name bytes = kept-same (Some files)
 kept-left_by_swap Half files name bytes = kept-same (Some files)
 kept-left_by_swap Whole files name bytes = kept-swapped files name bytes
+
+-- a store of no file has nothing under a name
+pub get-none : (files : List File) (name : List ℕ) → files ≡ [] → finite.get (files_of files) name ≡ None
+get-none files name is = ap (λ held. finite.get (files_of held) name) is ∙ get-empty (slice_cmp nat_cmp) name

@@ -54,6 +54,15 @@ fn a_store_in_memory_lists_reads_puts_and_swaps(rt: HostRuntime) -> Result<(), F
 }
 
 #[test]
+fn a_new_file_is_put(rt: HostRuntime) -> Result<(), Fail> {
+    let alloc = rt.alloc();
+    let mut store = MemoryStore::new(alloc);
+    store.put(alloc, "d", b"y")?;
+    holds(&rt, store.read(alloc, "d"), Some(b"y"));
+    Ok(())
+}
+
+#[test]
 fn a_planned_call_fails_and_leaves_what_was_planned(rt: HostRuntime) -> Result<(), Fail> {
     let alloc = rt.alloc();
     for (leave, wanted) in [

@@ -15,7 +15,7 @@ use Rattle.table_metadata.specs.References.{listed_refs_of, refs_of, all_refs, a
 use Rattle.table_metadata.specs.SchemaList.{schemas_of, specs_of, columns_with}
 use Rattle.table_metadata.specs.Snapshots.{snapshots_of}
 use Rattle.table_metadata.specs.TableKeys.{plain_keys_of, current_ids_of, optional_keys_of}
-use Rattle.table_metadata.specs.Steps.{◌>>=◌, or_fault}
+use Rattle.plain_types.specs.Steps.{◌>>=◌, or_fault}
 
 -- A reading in two steps that succeeds has two steps that do.
 pub two_steps : {A B E : Type 0} → (r : Result A E) (f : A → Result B E) (b : B) → (r >>= f) ≡ Ok b → (a : A) × (r ≡ Ok a) × (f a ≡ Ok b)

@@ -12,7 +12,7 @@ use Rattle.table_metadata.specs.KindText.{kind_of}
 use Rattle.table_metadata.specs.Keys.{int_at, text_at, bool_at, items_at, item_count}
 use Rattle.table_metadata.specs.SchemaJson.{is_reserved, has_id, has_name, column_of, columns_of, table_schema_of}
 use Rattle.table_metadata.specs.SoundSchema.{same_id, same_name, IsSoundSchema}
-use Rattle.table_metadata.specs.Steps.{or_fault, fault_if}
+use Rattle.plain_types.specs.Steps.{or_fault, fault_if}
 use Rattle.table_metadata.proofs.Coherence.{two_steps, one_value}
 
 -- no test that answered a fault held

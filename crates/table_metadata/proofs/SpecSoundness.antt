@@ -13,11 +13,11 @@ use Rattle.row_values.specs.declared.partition.Transform.TheVariants as transfor
 use Rattle.table_metadata.specs.declared.spec_fault.SpecFault.TheVariants as fault
 use Rattle.table_metadata.specs.declared.spec_fault.TransformFault.{TransformFault}
 use Rattle.table_metadata.specs.declared.spec_fault.TransformFault.TheVariants as text_fault
-use Rattle.table_metadata.specs.Digits.{number_at, after_text}
+use Rattle.plain_types.specs.Digits.{number_at, after_text}
 use Rattle.table_metadata.specs.Keys.{int_at, text_at, items_at, item_count}
 use Rattle.table_metadata.specs.SoundSpec.{same_field, is_transform, is_fit, IsSoundSpec}
 use Rattle.table_metadata.specs.SpecJson.{has_field, source_fits, field_of, fields_of, spec_of}
-use Rattle.table_metadata.specs.Steps.{◌>>=◌, or_fault, fault_if, fault_as, by_option}
+use Rattle.plain_types.specs.Steps.{◌>>=◌, or_fault, fault_if, fault_as, by_option}
 use Rattle.table_metadata.specs.TransformText.{is_text, width_of, numbered_of, transform_of}
 use Rattle.table_metadata.proofs.Coherence.{two_steps, one_value}
 use Rattle.table_metadata.proofs.SchemaSoundness.{untested, apart_pushed}

@@ -12,7 +12,7 @@ use Rattle.row_values.specs.declared.schema.TableSchema.{TableSchema}
 use Rattle.row_values.specs.declared.partition.Spec.{Spec}
 use Rattle.table_metadata.specs.declared.metadata_fault.MetadataFault.{MetadataFault}
 use Rattle.table_metadata.specs.TableKeys.{shape_if}
-use Rattle.table_metadata.specs.Steps.{◌>>=◌}
+use Rattle.plain_types.specs.Steps.{◌>>=◌}
 
 abbrev pub has_column_above : ℤ → List TableSchema → Bool
 has_column_above last schemas = list_any (λ schema. list_any (λ column. int_lt last column.id) schema.columns) schemas

@@ -3,7 +3,7 @@
 use Rattle.std.specs.Prelude.{ℕ, suc, ℤ, pos, neg_ℤ, ◌-◌, ◌^◌, ◌&&◌, int_le, if◌then◌else◌, List, Bool, true, false, Option, Some, None, is_some, option_and_then}
 use Rattle.std.specs.Ordering.{int_eq}
 use Rattle.serde_json.specs.Data.{Data, Items, no_items, item, Members}
-use Rattle.table_metadata.specs.Steps.{by_option}
+use Rattle.plain_types.specs.Steps.{by_option}
 use Rattle.serde_json.specs.Find.{get, as_number, as_i64, as_u64, as_str, as_bool, as_array, as_object}
 
 -- a whole number of 64 bits

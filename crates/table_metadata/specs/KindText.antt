@@ -3,7 +3,7 @@ use Rattle.std.specs.Prelude.{ℕ, ◌&&◌, nat_le, nat_eq, if◌then◌else◌
 use Rattle.std.specs.Cmp.Lexicographic.{pointwise}
 use Rattle.row_values.specs.declared.kind.Kind.{Kind}
 use Rattle.row_values.specs.declared.kind.Kind.TheVariants as kind
-use Rattle.table_metadata.specs.Digits.{number_at, after_text, after_blanks}
+use Rattle.plain_types.specs.Digits.{number_at, after_text, after_blanks}
 
 infixl 10 ◌>>=◌
 abbrev pub ◌>>=◌ : {A B : Type 0} → Option A → (A → Option B) → Option B

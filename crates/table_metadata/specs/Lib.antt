@@ -1,5 +1,4 @@
 pub mod Coherent
-pub mod Digits
 pub mod FieldIds
 pub mod Keys
 pub mod KindText
@@ -13,6 +12,5 @@ pub mod Snapshots
 pub mod SoundSchema
 pub mod SoundSpec
 pub mod SpecJson
-pub mod Steps
 pub mod TableKeys
 pub mod TransformText

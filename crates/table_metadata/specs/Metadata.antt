@@ -23,7 +23,7 @@ use Rattle.table_metadata.specs.References.{listed_refs_of, refs_of}
 use Rattle.table_metadata.specs.SchemaList.{schemas_of, specs_of}
 use Rattle.table_metadata.specs.Snapshots.{snapshots_of}
 use Rattle.table_metadata.specs.TableKeys.{plain_keys_of, current_ids_of, optional_keys_of}
-use Rattle.table_metadata.specs.Steps.{◌>>=◌, by_option}
+use Rattle.plain_types.specs.Steps.{◌>>=◌, by_option}
 
 -- what is read from the keys of a table's metadata
 pub record Parts : Type 0 where

@@ -9,7 +9,7 @@ use Rattle.serde_json.specs.Find.{get, as_object}
 use Rattle.table_metadata.specs.declared.metadata_fault.MetadataFault.{MetadataFault}
 use Rattle.table_metadata.specs.declared.metadata_fault.MetadataFault.TheVariants as fault
 use Rattle.table_metadata.specs.Keys.{items_at, members_at, whole_of}
-use Rattle.table_metadata.specs.Steps.{◌>>=◌, fault_if, by_option}
+use Rattle.plain_types.specs.Steps.{◌>>=◌, fault_if, by_option}
 
 abbrev pub needs : List ℕ → Data → Result ⊤ MetadataFault
 needs key d = by_option (get key d) (λ _. Ok tt) (Err (fault.Missing key))

@@ -7,9 +7,9 @@ use Rattle.serde_json.specs.Find.{get}
 use Rattle.table_metadata.specs.declared.metadata_fault.MetadataFault.{MetadataFault}
 use Rattle.table_metadata.specs.declared.metadata_fault.MetadataFault.TheVariants as fault
 use Rattle.table_metadata.specs.declared.properties.Properties.{Properties}
-use Rattle.table_metadata.specs.Digits.{whole_number}
+use Rattle.plain_types.specs.Digits.{whole_number}
 use Rattle.table_metadata.specs.Keys.{text_at}
-use Rattle.table_metadata.specs.Steps.{◌>>=◌, or_fault, by_option}
+use Rattle.plain_types.specs.Steps.{◌>>=◌, or_fault, by_option}
 
 -- the property's text
 abbrev pub property_at : List ℕ → Data → Option (List ℕ)

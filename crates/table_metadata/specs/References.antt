@@ -11,7 +11,7 @@ use Rattle.table_metadata.specs.declared.references.RefItem.{RefItem}
 use Rattle.table_metadata.specs.declared.snapshots.Snapshot.{Snapshot}
 use Rattle.table_metadata.specs.Keys.{long_at, text_at, members_at}
 use Rattle.table_metadata.specs.TableKeys.{shaped}
-use Rattle.table_metadata.specs.Steps.{◌>>=◌, fault_if, by_option}
+use Rattle.plain_types.specs.Steps.{◌>>=◌, fault_if, by_option}
 
 -- whether a ref's type is that of a tag
 unfoldable pub is_tag_type : List ℕ → Result Bool MetadataFault

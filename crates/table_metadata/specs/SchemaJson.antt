@@ -11,7 +11,7 @@ use Rattle.table_metadata.specs.declared.schema_fault.SchemaJsonFault.{SchemaJso
 use Rattle.table_metadata.specs.declared.schema_fault.SchemaJsonFault.TheVariants as fault
 use Rattle.table_metadata.specs.Keys.{int_at, text_at, bool_at, items_at, item_count}
 use Rattle.table_metadata.specs.KindText.{kind_of}
-use Rattle.table_metadata.specs.Steps.{◌>>=◌, or_fault, fault_if}
+use Rattle.plain_types.specs.Steps.{◌>>=◌, or_fault, fault_if}
 
 -- the ids of a position delete file's columns
 abbrev pub is_reserved : ℤ → Bool

@@ -12,7 +12,7 @@ use Rattle.table_metadata.specs.Keys.{items_at}
 use Rattle.table_metadata.specs.SchemaJson.{table_schema_of}
 use Rattle.table_metadata.specs.SpecJson.{spec_of}
 use Rattle.table_metadata.specs.TableKeys.{shaped}
-use Rattle.table_metadata.specs.Steps.{◌>>=◌, fault_as}
+use Rattle.plain_types.specs.Steps.{◌>>=◌, fault_as}
 
 -- the schemas of these elements, behind those that are read
 unfoldable pub schemas_from : List TableSchema → Items → Result (List TableSchema) MetadataFault

@@ -6,7 +6,7 @@ use Rattle.table_metadata.specs.declared.metadata_fault.MetadataFault.{MetadataF
 use Rattle.table_metadata.specs.declared.snapshots.Snapshot.{Snapshot}
 use Rattle.table_metadata.specs.Keys.{long_at, text_at, items_at, long_of, in_int}
 use Rattle.table_metadata.specs.TableKeys.{shaped}
-use Rattle.table_metadata.specs.Steps.{◌>>=◌, by_option}
+use Rattle.plain_types.specs.Steps.{◌>>=◌, by_option}
 
 abbrev pub optional_long : List ℕ → Data → Result (Option ℤ) MetadataFault
 optional_long key d = by_option (get key d) (λ v. shaped key (long_of v) >>= λ n. Ok (Some n)) (Ok None)

@@ -14,7 +14,7 @@ use Rattle.row_values.specs.declared.partition.Spec.{Spec}
 use Rattle.table_metadata.specs.declared.spec_fault.SpecFault.{SpecFault}
 use Rattle.table_metadata.specs.declared.spec_fault.SpecFault.TheVariants as fault
 use Rattle.table_metadata.specs.Keys.{int_at, text_at, items_at, item_count}
-use Rattle.table_metadata.specs.Steps.{◌>>=◌, or_fault, fault_if, fault_as, by_option}
+use Rattle.plain_types.specs.Steps.{◌>>=◌, or_fault, fault_if, fault_as, by_option}
 use Rattle.table_metadata.specs.TransformText.{transform_of}
 
 abbrev pub is_time : Kind → Bool

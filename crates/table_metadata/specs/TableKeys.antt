@@ -12,7 +12,7 @@ use Rattle.table_metadata.specs.declared.metadata_fault.MetadataFault.TheVariant
 use Rattle.table_metadata.specs.declared.table_keys.PlainKeys.{PlainKeys}
 use Rattle.table_metadata.specs.declared.table_keys.CurrentIds.{CurrentIds}
 use Rattle.table_metadata.specs.Keys.{long_at, int_at, text_at, items_at, long_of, whole_of, has_id, has_twice, all_objects}
-use Rattle.table_metadata.specs.Steps.{◌>>=◌, or_fault, fault_if, by_option}
+use Rattle.plain_types.specs.Steps.{◌>>=◌, or_fault, fault_if, by_option}
 
 abbrev pub shaped : {A : Type 0} → List ℕ → Option A → Result A MetadataFault
 shaped key found = or_fault (fault.Shape key) found

@@ -6,8 +6,8 @@ use Rattle.row_values.specs.declared.partition.Transform.{Transform}
 use Rattle.row_values.specs.declared.partition.Transform.TheVariants as transform
 use Rattle.table_metadata.specs.declared.spec_fault.TransformFault.{TransformFault}
 use Rattle.table_metadata.specs.declared.spec_fault.TransformFault.TheVariants as fault
-use Rattle.table_metadata.specs.Digits.{number_at, after_text}
-use Rattle.table_metadata.specs.Steps.{◌>>=◌, or_fault, fault_if, by_option}
+use Rattle.plain_types.specs.Digits.{number_at, after_text}
+use Rattle.plain_types.specs.Steps.{◌>>=◌, or_fault, fault_if, by_option}
 
 abbrev pub is_text : List ℕ → List ℕ → Bool
 is_text = pointwise nat_eq

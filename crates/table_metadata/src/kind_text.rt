@@ -2,7 +2,7 @@
 ghost use Rattle.std.specs.Prelude.{◌≡◌};
 ghost use Rattle.table_metadata.specs.KindText.{kind_of, decimal_of, decimal_kind};
 
-use crate::digits::{after_blanks, after_text, number_at};
+use plain_types::digits::{after_blanks, after_text, number_at};
 use row_values::Kind;
 
 /// The kind that a type's text names.

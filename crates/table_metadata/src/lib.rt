@@ -7,7 +7,6 @@
 //! whole together (`Coherent`).
 #![tactic(auto)]
 
-mod digits;
 mod field_ids;
 mod floats;
 mod json;

@@ -3,7 +3,7 @@ ghost use Rattle.std.specs.Prelude.{◌≡◌};
 ghost use Rattle.table_metadata.specs.TransformText.{transform_of, numbered_of, width_of};
 
 use crate::TransformFault;
-use crate::digits::{after_text, number_at};
+use plain_types::digits::{after_text, number_at};
 use row_values::Transform;
 use std::alloc::Global;
 

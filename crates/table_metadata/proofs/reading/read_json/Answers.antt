@@ -7,7 +7,7 @@ use Rattle.serde_json.specs.Read.{read}
 use Rattle.serde_json.specs.View.{view}
 use Rattle.table_metadata.specs.declared.metadata_fault.MetadataFault.TheVariants as fault
 use Rattle.table_metadata.specs.Metadata.{json_of, whole_object}
-use Rattle.table_metadata.specs.Steps.{by_option}
+use Rattle.plain_types.specs.Steps.{by_option}
 use Rattle.table_metadata.proofs.reading.read_json.Goals as goal
 
 -- what the bytes are, at the answer of the test and of the reading
