@@ -1,6 +1,6 @@
 -- The value of an option, from what clap says of its matches.
-use Rattle.std.proofs.Common.{◌≡◌, ℕ, Bool, true, false, ◌&&◌, refl, ◌==◌, List, [], length, Option, None, cond, sym, ap, subst, ◌∙◌}
-use Rattle.clap.specs.Words.{App, Kinds, fault_of, matches_of, found_of, first_value, rows_of, is_simple, is_simple_and_free, built}
+use Rattle.std.proofs.Common.{◌≡◌, ℕ, Bool, true, false, ◌&&◌, refl, ◌==◌, List, [], length, None, cond, sym, ap, subst, ◌∙◌}
+use Rattle.clap.specs.Words.{App, Kinds, fault_of, matches_of, first_value, rows_of, is_simple, is_simple_and_free, built}
 use Rattle.clap.specs.Faults.{is_free_app}
 use Rattle.clap.specs.Walk.{first_of}
 use Rattle.clap.specs.declared.parser.matches.Found.{Found}

@@ -1,5 +1,5 @@
 -- The options of each command, as clap reads them: each at most once, with one value, and neither help nor version.
-use Rattle.std.specs.Prelude.{ℕ, codes, List, Option, Some, None, true}
+use Rattle.std.specs.Prelude.{ℕ, codes, List, Some, true}
 use Rattle.clap.specs.Words.{App, Rule, new_app, new_rule, with_rule}
 use Rattle.clap.specs.Simple.{on_top}
 use Rattle.clap.specs.declared.builder.action.ArgAction.TheVariants.{Set}

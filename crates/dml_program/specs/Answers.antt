@@ -1,5 +1,5 @@
 -- What a call of the program answers: the answer that is wanted, and how the status carries it.
-use Rattle.std.specs.Prelude.{◌≡◌, ◌<◌, ◌⊎◌, ℕ, List, Option, Some, None}
+use Rattle.std.specs.Prelude.{◌≡◌, ◌⊎◌, ℕ, List, Option}
 use Rattle.plain_types.specs.Causes.{Rose}
 use Rattle.plain_types.specs.Steps.{by_option}
 use Rattle.store_core.specs.Files.{Files}
@@ -9,7 +9,6 @@ use Rattle.dml_program.specs.declared.status.TableKind.{TableKind}
 use Rattle.dml_program.specs.declared.status.Status.{Status}
 use Rattle.dml_program.specs.declared.status.Status.TheVariants as status
 use Rattle.dml_program.specs.Opening.{Fault, table_fault}
-use Rattle.dml_program.specs.Statuses.{fault_lines}
 
 pub data Answer : Type 0 where
   done : Answer

@@ -1,5 +1,5 @@
 -- A store that is a list of files in memory, with a plan of the calls that fail.
-use Rattle.std.specs.Prelude.{◌≡◌, ℕ, ◌+◌, Bool, true, false, ◌&&◌, ◌==◌, if◌then◌else◌, Option, Some, None, List, [], ◌∷◌, map, take, length, ◌/◌}
+use Rattle.std.specs.Prelude.{ℕ, Bool, true, false, ◌&&◌, ◌==◌, if◌then◌else◌, Option, Some, None, List, [], ◌∷◌, map, take, length, ◌/◌}
 use Rattle.std.specs.FinMap as finite
 use Rattle.plain_types.specs.Causes.{bump}
 use Rattle.store_core.specs.Files.{Files, with_file, swapped}
@@ -10,7 +10,6 @@ use Rattle.store_core.specs.declared.memory_store.CallKind.TheVariants as kind
 use Rattle.store_core.specs.declared.memory_store.Leave.{Leave}
 use Rattle.store_core.specs.declared.memory_store.Leave.TheVariants.{Nothing, Half, Whole}
 use Rattle.store_core.specs.declared.memory_store.Calls.{Calls}
-use Rattle.store_core.specs.declared.memory_store.MemoryStore.{MemoryStore}
 
 abbrev pub pairs : List File → List (List ℕ × List ℕ)
 pairs files = map (λ file. (file.name, file.bytes)) files

@@ -1,5 +1,5 @@
 -- What a sink has taken.
-use Rattle.std.specs.Prelude.{◌≡◌, ◌≤◌, ◌<◌, ◌⊎◌, ℕ, Option, List, [], ◌++◌, length, take, Result, IfOk, OnErr, option_map}
+use Rattle.std.specs.Prelude.{◌≡◌, ◌≤◌, ◌<◌, ℕ, Option, List, ◌++◌, length, take, Result, IfOk, OnErr, option_map}
 use Rattle.plain_types.specs.Causes.{Rose}
 
 -- what was written, and then these bytes

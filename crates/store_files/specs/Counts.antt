@@ -1,5 +1,4 @@
 -- What a store over a folder counts.
-use Rattle.std.specs.Prelude.{◌≡◌, ℕ}
 use Rattle.plain_types.specs.Causes.{bump}
 use Rattle.store_core.specs.declared.store.StoreFault.{StoreFault}
 use Rattle.store_core.specs.declared.store.StoreFault.TheVariants.{Failed, Memory}

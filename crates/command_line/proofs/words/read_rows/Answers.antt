@@ -1,5 +1,5 @@
-use Rattle.std.proofs.Common.{◌≡◌, ◌∙◌, ap, true}
-use Rattle.clap.specs.Words.{App, is_simple_and_free}
+use Rattle.std.proofs.Common.{◌∙◌, ap}
+use Rattle.clap.specs.Words.{is_simple_and_free}
 use Rattle.command_line.proofs.OptionLemmas.{simple_rows_app}
 use Rattle.command_line.proofs.words.read_rows.Goals as goal
 

@@ -1,4 +1,4 @@
-use Rattle.std.proofs.Common.{◌≡◌, ◌+◌, drop}
+use Rattle.std.proofs.Common.{◌≡◌, drop}
 use Rattle.std.specs.FinMap as finite
 use Rattle.store_core.specs.Memory.{files_of}
 use Rattle.store_core.proofs.names.names_of.Given as goal

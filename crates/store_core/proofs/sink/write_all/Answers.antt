@@ -1,4 +1,4 @@
-use Rattle.std.proofs.Common.{◌≡◌, ◌≤◌, ◌+◌, length, take, drop, sym, ap, ◌∙◌, arith, rules, length-drop}
+use Rattle.std.proofs.Common.{◌≤◌, length, take, drop, ap, ◌∙◌, arith, length-drop}
 use Rattle.store_core.specs.Written.{appended}
 use Rattle.store_core.proofs.WrittenLemmas.{appended-more}
 use Rattle.store_core.proofs.sink.write_all.Goals as goal

@@ -1,5 +1,4 @@
-use Rattle.std.proofs.Common.{◌≡◌, ◌++◌, ◌∷◌, [], rules, sym, ap, ◌∙◌}
-use Rattle.store_core.specs.Memory.{files_of}
+use Rattle.std.proofs.Common.{rules}
 use Rattle.store_core.proofs.FilesLemmas.{files_of-push}
 use Rattle.store_core.proofs.memory_store.MemoryStore.add.Goals as goal
 

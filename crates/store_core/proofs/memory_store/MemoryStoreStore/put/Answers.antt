@@ -1,4 +1,4 @@
-use Rattle.std.proofs.Common.{◌≡◌, Some, refl, subst, sym, ap, ◌∙◌}
+use Rattle.std.proofs.Common.{Some, refl, subst, sym, ap, ◌∙◌}
 use Rattle.store_core.specs.Files.{Files, with_file, KeepsFiles}
 use Rattle.store_core.specs.Memory.{files_of, left_by_put}
 use Rattle.store_core.specs.declared.memory_store.MemoryStore.{MemoryStore}

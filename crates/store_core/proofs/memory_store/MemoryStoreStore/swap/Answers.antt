@@ -1,4 +1,4 @@
-use Rattle.std.proofs.Common.{◌≡◌, Some, refl, subst, sym, ap, ◌∙◌}
+use Rattle.std.proofs.Common.{Some, subst, sym, ap, ◌∙◌}
 use Rattle.store_core.specs.Files.{Files, swapped, KeepsFiles}
 use Rattle.store_core.specs.Memory.{files_of}
 use Rattle.store_core.specs.declared.memory_store.MemoryStore.{MemoryStore}
