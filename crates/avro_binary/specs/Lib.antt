@@ -2,3 +2,4 @@ pub mod Answer
 pub mod Number
 pub mod Shape
 pub mod Reading
+pub mod Grammar

@@ -1,6 +1,6 @@
 -- Numbers of the binary encoding (Avro 1.11.1, 'Binary Encoding', 'Primitive Types'): groups of seven bits, the lowest
 -- first, each byte but the last with its high bit set; a signed number n stands as 2n, or as -2n - 1 below 0.
-use Rattle.std.specs.Prelude.{ℕ, zero, suc, min, ◌+◌, ◌-◌, ◌*◌, ◌/◌, ◌%◌, ◌^◌, ℤ, pos, negsuc, List, [], ◌∷◌, length, take, drop, Result, Ok, Err, nat_lt, ◌==◌, if◌then◌else◌}
+use Rattle.std.specs.Prelude.{ℕ, zero, suc, min, ◌+◌, ◌-◌, ◌*◌, ◌/◌, ◌%◌, ◌^◌, ℤ, pos, negsuc, List, [], ◌∷◌, length, take, drop, Result, Ok, Err, nat_lt, nat_le, ◌==◌, ◌&&◌, if◌then◌else◌}
 use Rattle.std.specs.Str.{is_utf8}
 use Rattle.avro_binary.specs.declared.fault.Kind.{Kind}
 use Rattle.avro_binary.specs.declared.fault.Kind.TheVariants.{Short, Long, Branch, Text, Size}
@@ -41,7 +41,7 @@ length_at bytes = do
 unfoldable pub index_at : ℕ → List ℕ → Answer ℕ
 index_at limit bytes = do
   number ← number_at bytes
-  if number.0 % 2 == 0 then (if nat_lt (number.0 / 2) (min limit (2 ^ 32)) then Ok (number.0 / 2, number.1) else Err (spot Branch bytes)) else Err (spot Branch bytes)
+  if (number.0 % 2 == 0) && nat_lt (number.0 / 2) (min limit (2 ^ 32)) then Ok (number.0 / 2, number.1) else Err (spot Branch bytes)
 
 -- so many bytes
 unfoldable pub front_at : ℕ → List ℕ → Answer (List ℕ)
@@ -63,8 +63,14 @@ text_at bytes = do
 abbrev pub count_of : ℕ → ℕ
 count_of number = number / 2 + number % 2
 
+-- the number of a block's count, which counts at most as many items as bytes are left after it
+unfoldable pub counted_at : List ℕ → Answer ℕ
+counted_at bytes = do
+  number ← number_at bytes
+  if nat_le (count_of number.0) (length number.1) then Ok number else Err (spot Size bytes)
+
 -- A block's count. A negative one is followed by the block's size in bytes.
 unfoldable pub count_at : List ℕ → Answer ℕ
 count_at bytes = do
-  number ← number_at bytes
-  if nat_lt (length number.1) (count_of number.0) then Err (spot Size bytes) else (if number.0 % 2 == 0 then Ok (number.0 / 2, number.1) else (length_at number.1 >>= λ size. Ok (number.0 / 2 + 1, size.1)))
+  number ← counted_at bytes
+  if number.0 % 2 == 0 then Ok (number.0 / 2, number.1) else (length_at number.1 >>= λ size. Ok (number.0 / 2 + 1, size.1))

@@ -1,7 +1,7 @@
 ghost use Rattle.std.specs.Prelude.{◌≡◌, ◌^◌, ◌≤◌, ◌+◌, length};
 ghost use Rattle.std.specs.Str.{is_utf8};
 ghost use Rattle.avro_binary.specs.Answer.{Gives};
-ghost use Rattle.avro_binary.specs.Number.{signed, groups_at, number_at, int_at, long_at, length_at, index_at, front_at, bytes_at, text_at, count_at};
+ghost use Rattle.avro_binary.specs.Number.{signed, groups_at, number_at, int_at, long_at, length_at, index_at, front_at, bytes_at, text_at, counted_at, count_at};
 
 use crate::fault::{Kind, Stop, fault, short};
 
@@ -86,12 +86,8 @@ pub fn index_at(limit: usize, bytes: &[u8]) -> Result<(u32, &[u8]), Stop>
     ensures { Gives (λ x. (x.0, x.1.now)) result (index_at limit bytes.now) }
 {
     let (number, rest) = number_at(bytes)?;
-    if number % 2 == 0 {
-        if number / 2 < (limit as u64).min(0x1_0000_0000) {
-            Ok(((number / 2) as u32, rest))
-        } else {
-            Err(fault(Kind::Branch, bytes))
-        }
+    if number % 2 == 0 && number / 2 < (limit as u64).min(0x1_0000_0000) {
+        Ok(((number / 2) as u32, rest))
     } else {
         Err(fault(Kind::Branch, bytes))
     }
@@ -138,14 +134,23 @@ pub fn text_at(bytes: &[u8]) -> Result<(&[u8], &[u8]), Stop>
     }
 }
 
+#[tactic(auto, unfolding(crate::specs::Number::counted_at))]
+fn counted_at(bytes: &[u8]) -> Result<(u64, &[u8]), Stop>
+    ensures { Gives (λ x. (x.0, x.1.now)) result (counted_at bytes.now) }
+{
+    let (number, rest) = number_at(bytes)?;
+    if number / 2 + number % 2 <= rest.len() as u64 {
+        Ok((number, rest))
+    } else {
+        Err(fault(Kind::Size, bytes))
+    }
+}
+
 #[tactic(auto, unfolding(crate::specs::Number::count_at))]
 pub fn count_at(bytes: &[u8]) -> Result<(u64, &[u8]), Stop>
     ensures { Gives (λ x. (x.0, x.1.now)) result (count_at bytes.now) }
 {
-    let (number, rest) = number_at(bytes)?;
-    if (rest.len() as u64) < number / 2 + number % 2 {
-        return Err(fault(Kind::Size, bytes));
-    }
+    let (number, rest) = counted_at(bytes)?;
     if number % 2 == 0 {
         return Ok((number / 2, rest));
     }
