@@ -1,2 +1,4 @@
 pub mod Loops
 pub mod Shapes
+pub mod Laws
+pub mod NumberLaws
