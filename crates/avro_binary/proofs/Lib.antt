@@ -2,3 +2,5 @@ pub mod Loops
 pub mod Shapes
 pub mod Laws
 pub mod NumberLaws
+pub mod PartLaws
+pub mod DatumLaws
