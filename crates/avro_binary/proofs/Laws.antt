@@ -102,3 +102,39 @@ law_ok {A = A} x bytes = record {
   first = λ f h. absurd h;
   parts = λ y rest e. ([], same_rest x y bytes rest e);
 }
+
+-- the same grammar in other words
+pub law_as : {A : Type 0} {bytes : List ℕ} {reads : A → List ℕ → Type 0} {fails : Spot → Type 0} {answer : Answer A} (others : A → List ℕ → Type 0) (faults : Spot → Type 0)
+    → Law bytes reads fails answer → ((x : A) (rest : List ℕ) → reads x rest → others x rest) → ((x : A) (rest : List ℕ) → others x rest → reads x rest) → ((f : Spot) → fails f → faults f) → ((f : Spot) → faults f → fails f) → Law bytes others faults answer
+law_as others faults a to back to_fault back_fault = record {
+  found = λ x rest e. to x rest (a.found x rest e);
+  only = λ x rest h. a.only x rest (back x rest h);
+  fault = λ f e. to_fault f (a.fault f e);
+  first = λ f h. a.first f (back_fault f h);
+  parts = λ x rest e. a.parts x rest e;
+}
+
+-- an answer that is the same
+pub law_along : {A : Type 0} {bytes : List ℕ} {reads : A → List ℕ → Type 0} {fails : Spot → Type 0} (answer other : Answer A) → other ≡ answer → Law bytes reads fails answer → Law bytes reads fails other
+law_along answer other same a = record {
+  found = λ x rest e. a.found x rest (sym same ∙ e);
+  only = λ x rest h. same ∙ a.only x rest h;
+  fault = λ f e. a.fault f (sym same ∙ e);
+  first = λ f h. same ∙ a.first f h;
+  parts = λ x rest e. a.parts x rest (sym same ∙ e);
+}
+
+abbrev stopped : {A : Type 0} → Spot → Answer A
+stopped e = Err e
+
+same_fault : {A : Type 0} (e f : Spot) → stopped {A = A} e ≡ Err f → e ≡ f
+same_fault e f h = cc
+
+pub law_err : {A : Type 0} (e : Spot) (bytes : List ℕ) (reads : A → List ℕ → Type 0) (fails : Spot → Type 0) → ((x : A) (rest : List ℕ) → reads x rest → ⊥) → ((f : Spot) → fails f → f ≡ e) → fails e → Law bytes reads fails (Err e)
+law_err e bytes reads fails none same is = record {
+  found = λ x rest h. absurd (err_no_ok x rest e h);
+  only = λ x rest h. absurd (none x rest h);
+  fault = λ f h. subst fails (same_fault e f h) is;
+  first = λ f h. ap (λ (g : Spot). Err g) (sym (same f h));
+  parts = λ x rest h. absurd (err_no_ok x rest e h);
+}
