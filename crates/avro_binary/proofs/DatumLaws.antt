@@ -12,7 +12,7 @@ use Rattle.avro_binary.specs.Number.{count_at, counted_at, index_at, groups_at}
 use Rattle.avro_binary.specs.Shape.{Shape, null_shape, boolean_shape, int_shape, long_shape, bytes_shape, text_shape, record_shape, enum_shape, array_shape, map_shape, union_shape, fixed_shape, Shapes, no_shapes, more_shapes, shape_count}
 use Rattle.avro_binary.specs.Reading.{under, boolean_at, items_at, blocks_at, pair_at, datum_at, fields_at, branch_at}
 use Rattle.avro_binary.specs.Grammar.{Then, FailsThen, As, ReadsGroups, ReadsNumber, ReadsIndex, FailsIndex, ReadsCount, FailsCount, ReadsEach, FailsAfter, ReadsItems, FailsItems, ReadsBlock, FailsBlock, ReadsBlocks, joined, ReadsAll, FailsAll, ReadsBoolean, FailsBoolean, ReadsPair, FailsPair, ReadsText, FailsText, Reads, ReadsFields, ReadsBranch, Fails, FailsFields, FailsBranch, IsNumber}
-use Rattle.avro_binary.proofs.Laws.{Law, done, same_value, same_rest, ok_no_err, err_no_ok, law_then, law_under, law_ok, law_as, law_along, law_err}
+use Rattle.avro_binary.proofs.Laws.{Law, done, same_value, same_rest, bind_ok, bind_err, ok_no_err, err_no_ok, law_then, law_under, law_ok, law_as, law_along, law_err}
 use Rattle.avro_binary.proofs.Loops.{ne-eqb}
 use Rattle.avro_binary.proofs.PartLaws.{int_law, long_law, length_law, index_law, front_law, bytes_law, text_law, count_law}
 
@@ -147,3 +147,90 @@ blocks_law reads fails reader law zero bytes le =
     law_along (blocks_at reader (suc 0) bytes) (blocks_at reader 0 bytes) (no_blocks reader bytes (nil_from_length bytes (omega arith)))
       (blocks_step_law reads fails reader law 0 bytes (λ after lt. absurd (omega arith)))
 blocks_law reads fails reader law (suc more) bytes le = blocks_step_law reads fails reader law more bytes (λ after lt. blocks_law reads fails reader law more after (omega arith))
+
+-- ---- datums
+
+boolean_found : (bytes : List ℕ) (b : Bool) (rest : List ℕ) → boolean_at bytes ≡ Ok (b, rest) → ReadsBoolean bytes (datum.Boolean b) rest
+unfolding boolean_at
+boolean_found [] b rest e = absurd (err_no_ok b rest ended e)
+boolean_found (zero ∷ bytes) b rest e = inl (ap (λ (t : List ℕ). 0 ∷ t) (same_rest false b bytes rest e), ap (λ (c : Bool). datum.Boolean c) (sym (same_value false b bytes rest e)))
+boolean_found (suc zero ∷ bytes) b rest e = inr (ap (λ (t : List ℕ). 1 ∷ t) (same_rest true b bytes rest e), ap (λ (c : Bool). datum.Boolean c) (sym (same_value true b bytes rest e)))
+boolean_found (suc (suc n) ∷ bytes) b rest e = absurd (err_no_ok b rest (spot Branch (suc (suc n) ∷ bytes)) e)
+
+boolean_fault : (bytes : List ℕ) (f : Spot) → boolean_at bytes ≡ Err f → FailsBoolean bytes f
+unfolding boolean_at
+boolean_fault [] f e = inl (refl, cc)
+boolean_fault (zero ∷ bytes) f e = absurd (ok_no_err false bytes f e)
+boolean_fault (suc zero ∷ bytes) f e = absurd (ok_no_err true bytes f e)
+boolean_fault (suc (suc n) ∷ bytes) f e = inr (suc (suc n), bytes, refl, omega arith, cc)
+
+boolean_bad : (b : ℕ) (rest : List ℕ) → 2 ≤ b → boolean_at (b ∷ rest) ≡ Err (spot Branch (b ∷ rest))
+unfolding boolean_at
+boolean_bad zero rest two = absurd (omega arith)
+boolean_bad (suc zero) rest two = absurd (omega arith)
+boolean_bad (suc (suc n)) rest two = refl
+
+boolean_first : (bytes : List ℕ) (f : Spot) → FailsBoolean bytes f → boolean_at bytes ≡ Err f
+unfolding boolean_at
+boolean_first bytes f (inl (none, e)) = ap boolean_at none ∙ ap (λ (g : Spot). Err g) (sym e)
+boolean_first bytes f (inr (b, rest, is, two, e)) = ap boolean_at is ∙ boolean_bad b rest two ∙ ap (λ (t : List ℕ). Err (spot Branch t)) (sym is) ∙ ap (λ (g : Spot). Err g) (sym e)
+
+boolean_law : (bytes : List ℕ) → Law bytes (ReadsBoolean bytes) (FailsBoolean bytes) (under datum.Boolean (boolean_at bytes))
+unfolding boolean_at
+boolean_law bytes = record {
+  found = λ d rest e. (let p = bind_ok (boolean_at bytes) (λ x. Ok (datum.Boolean x.0, x.1)) d rest e in
+      let same : p.1 ≡ rest = same_rest (datum.Boolean p.0) d p.1 rest p.3 in
+      let value : datum.Boolean p.0 ≡ d = same_value (datum.Boolean p.0) d p.1 rest p.3 in
+      subst (λ (x : Datum). ReadsBoolean bytes x rest) value (subst (λ (t : List ℕ). ReadsBoolean bytes (datum.Boolean p.0) t) same (boolean_found bytes p.0 p.1 p.2)));
+  only = λ d rest h. elim h [
+      | inl l ↦ ap (λ t. under datum.Boolean (boolean_at t)) l.0 ∙ ap (λ (x : Datum). done x rest) (sym l.1)
+      | inr r ↦ ap (λ t. under datum.Boolean (boolean_at t)) r.0 ∙ ap (λ (x : Datum). done x rest) (sym r.1)
+    ];
+  fault = λ f e. elim (bind_err (boolean_at bytes) (λ x. Ok (datum.Boolean x.0, x.1)) f e) [ inl l ↦ boolean_fault bytes f l | inr r ↦ absurd (ok_no_err (datum.Boolean r.0) r.1 f r.3) ];
+  first = λ f h. ap (under datum.Boolean) (boolean_first bytes f h);
+  parts = λ d rest e. (let p = bind_ok (boolean_at bytes) (λ x. Ok (datum.Boolean x.0, x.1)) d rest e in
+      let same : p.1 ≡ rest = same_rest (datum.Boolean p.0) d p.1 rest p.3 in
+      elim (boolean_found bytes p.0 p.1 p.2) [
+        | inl l ↦ (0 ∷ [], l.0 ∙ ap (λ (t : List ℕ). 0 ∷ t) same)
+        | inr r ↦ (1 ∷ [], r.0 ∙ ap (λ (t : List ℕ). 1 ∷ t) same)
+      ]);
+}
+
+pair_law : (reads : List ℕ → Datum → List ℕ → Type 0) (fails : List ℕ → Spot → Type 0) (reader : List ℕ → Answer Datum) → ((bytes : List ℕ) → Law bytes (reads bytes) (fails bytes) (reader bytes))
+    → (bytes : List ℕ) → Law bytes (ReadsPair reads bytes) (FailsPair fails bytes) (pair_at reader bytes)
+unfolding pair_at
+pair_law reads fails reader law bytes =
+    let named : List ℕ → Datum → MapPair = λ key value. record { key = key; value = value } in
+    law_then (λ key after. As (named key) (reads after)) (λ key after. fails after) (λ key. under (named key.0) (reader key.1)) (text_law bytes) (λ key after e. law_under (named key) (law after))
+
+index_in : (limit : ℕ) (bytes : List ℕ) (index : ℕ) (rest : List ℕ) → ReadsIndex limit bytes index rest → index < limit
+index_in limit bytes index rest (n, r, (even, lt), e) = omega arith
+
+mutual
+  unfolding datum_at fields_at branch_at Reads ReadsFields ReadsBranch Fails FailsFields FailsBranch
+  pub datum_law : (s : Shape) (bytes : List ℕ) → Law bytes (Reads s bytes) (Fails s bytes) (datum_at s bytes)
+  datum_law null_shape bytes = law_ok datum.Null bytes
+  datum_law boolean_shape bytes = boolean_law bytes
+  datum_law int_shape bytes = law_under datum.Int (int_law bytes)
+  datum_law long_shape bytes = law_under datum.Long (long_law bytes)
+  datum_law bytes_shape bytes = law_under datum.Bytes (bytes_law bytes)
+  datum_law text_shape bytes = law_under datum.Text (text_law bytes)
+  datum_law (record_shape fields) bytes = law_under datum.Record (fields_law fields bytes)
+  datum_law (enum_shape count) bytes = law_under datum.Enum (index_law count bytes)
+  datum_law (array_shape items) bytes = law_under datum.Array (blocks_law (Reads items) (Fails items) (datum_at items) (datum_law items) (length bytes) bytes (omega arith))
+  datum_law (map_shape values) bytes = law_under datum.Map (blocks_law (ReadsPair (Reads values)) (FailsPair (Fails values)) (pair_at (datum_at values)) (pair_law (Reads values) (Fails values) (datum_at values) (datum_law values)) (length bytes) bytes (omega arith))
+  datum_law (union_shape branches) bytes =
+      let index = index_law (shape_count branches) bytes in
+      law_then (λ branch after. As (datum.Union branch) (ReadsBranch branches branch after)) (FailsBranch branches) (λ branch. under (datum.Union branch.0) (branch_at branches branch.0 branch.1)) index
+        (λ branch after e. law_under (datum.Union branch) (branch_law branches branch after (index_in (shape_count branches) bytes branch after (index.found branch after e))))
+  datum_law (fixed_shape size) bytes = law_under datum.Fixed (front_law size bytes)
+
+  pub fields_law : (ss : Shapes) (bytes : List ℕ) → Law bytes (ReadsFields ss bytes) (FailsFields ss bytes) (fields_at ss bytes)
+  fields_law no_shapes bytes = law_ok [] bytes
+  fields_law (more_shapes s ss) bytes =
+      law_then (λ d after. As (λ others. d ∷ others) (ReadsFields ss after)) (λ d after. FailsFields ss after) (λ first. under (λ others. first.0 ∷ others) (fields_at ss first.1)) (datum_law s bytes) (λ d after e. law_under (λ others. d ∷ others) (fields_law ss after))
+
+  pub branch_law : (ss : Shapes) (index : ℕ) (bytes : List ℕ) → index < shape_count ss → Law bytes (ReadsBranch ss index bytes) (FailsBranch ss index bytes) (branch_at ss index bytes)
+  branch_law no_shapes index bytes lt = absurd (omega arith)
+  branch_law (more_shapes s ss) zero bytes lt = datum_law s bytes
+  branch_law (more_shapes s ss) (suc index) bytes lt = branch_law ss index bytes (omega arith)
