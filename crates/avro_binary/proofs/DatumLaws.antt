@@ -46,8 +46,8 @@ unfolding items_at
 items_law reads fails reader law zero bytes = law_as (ReadsItems reads 0 bytes) (FailsItems reads fails 0 bytes) (law_ok [] bytes) (λ ys rest h. no_items_to reads bytes ys rest h) (λ ys rest h. no_items_only reads bytes ys rest h) (λ f h. absurd h) (λ f h. absurd (let lt : length h.0 < 0 = h.1 in omega arith))
 items_law reads fails reader law (suc count) bytes =
     law_as (ReadsItems reads (suc count) bytes) (FailsItems reads fails (suc count) bytes)
-      (law_then (λ x after. As (λ xs. x ∷ xs) (ReadsItems reads count after)) (λ x after. FailsItems reads fails count after) (λ first. under (λ xs. first.0 ∷ xs) (items_at reader count first.1)) (law bytes) (λ x after e. law_under (λ xs. x ∷ xs) (items_law reads fails reader law count after)))
-      (λ ys rest h. items_to reads count bytes ys rest h) (λ ys rest h. items_back reads count bytes ys rest h) (λ f h. fails_items_to reads fails count bytes f h) (λ f h. fails_items_back reads fails count bytes f h)
+    (law_then (λ x after. As (λ xs. x ∷ xs) (ReadsItems reads count after)) (λ x after. FailsItems reads fails count after) (λ first. under (λ xs. first.0 ∷ xs) (items_at reader count first.1)) (law bytes) (λ x after e. law_under (λ xs. x ∷ xs) (items_law reads fails reader law count after)))
+    (λ ys rest h. items_to reads count bytes ys rest h) (λ ys rest h. items_back reads count bytes ys rest h) (λ f h. fails_items_to reads fails count bytes f h) (λ f h. fails_items_back reads fails count bytes f h)
 
 -- ---- blocks
 
@@ -109,7 +109,7 @@ unfolding after_count
 counted_zero {A = A} reads fails reader more count bytes z =
     let is : after_count reader more (count, bytes) ≡ done {A = List A} [] bytes = ap (λ (b : Bool). cond b (Ok ([], bytes)) (items_at reader count bytes >>= λ block. under (λ others. block.0 ++ others) (blocks_at reader more block.1))) (ap (λ n. eqb n 0) z) in
     law_along (Ok ([], bytes)) (after_count reader more (count, bytes)) is
-      (law_as (Counted reads count bytes) (FailsCounting reads fails count bytes) (law_ok {A = List A} [] bytes) (λ ys rest h. inl (z, h.0, h.1)) (λ ys rest h. elim h [ inl l ↦ (l.1, l.2) | inr r ↦ not_both count z r.0 ]) (λ f h. absurd h) (λ f h. not_both count z h.0))
+    (law_as (Counted reads count bytes) (FailsCounting reads fails count bytes) (law_ok {A = List A} [] bytes) (λ ys rest h. inl (z, h.0, h.1)) (λ ys rest h. elim h [ inl l ↦ (l.1, l.2) | inr r ↦ not_both count z r.0 ]) (λ f h. absurd h) (λ f h. not_both count z h.0))
 
 counted_some : {A : Type 0} (reads : List ℕ → A → List ℕ → Type 0) (fails : List ℕ → Spot → Type 0) (reader : List ℕ → Answer A) → ((bytes : List ℕ) → Law bytes (reads bytes) (fails bytes) (reader bytes)) → (more count : ℕ) (bytes : List ℕ)
     → ((after : List ℕ) → length after ≤ length bytes → Law after (ReadsAll reads after) (FailsAll reads fails after) (blocks_at reader more after)) → 0 < count → Law bytes (Counted reads count bytes) (FailsCounting reads fails count bytes) (after_count reader more (count, bytes))
@@ -119,10 +119,10 @@ counted_some {A = A} reads fails reader law more count bytes others some =
     let items = items_law reads fails reader law count bytes in
     let is : after_count reader more (count, bytes) ≡ whole = ap (λ (b : Bool). cond b (Ok ([], bytes)) whole) (ne-eqb count 0 (λ z. not_both count z some)) in
     law_along whole (after_count reader more (count, bytes)) is
-      (law_as (Counted reads count bytes) (FailsCounting reads fails count bytes)
-        (law_then (λ xs after. As (λ zs. xs ++ zs) (ReadsAll reads after)) (λ xs after. FailsAll reads fails after) (λ block. under (λ zs. block.0 ++ zs) (blocks_at reader more block.1)) items
-          (λ xs after e. law_under (λ zs. xs ++ zs) (others after (not_longer bytes after (items.parts xs after e)))))
-        (λ ys rest h. inr (some, h)) (λ ys rest h. elim h [ inl l ↦ not_both count l.0 some | inr r ↦ r.1 ]) (λ f h. (some, h)) (λ f h. h.1))
+    (law_as (Counted reads count bytes) (FailsCounting reads fails count bytes)
+    (law_then (λ xs after. As (λ zs. xs ++ zs) (ReadsAll reads after)) (λ xs after. FailsAll reads fails after) (λ block. under (λ zs. block.0 ++ zs) (blocks_at reader more block.1)) items
+    (λ xs after e. law_under (λ zs. xs ++ zs) (others after (not_longer bytes after (items.parts xs after e)))))
+    (λ ys rest h. inr (some, h)) (λ ys rest h. elim h [ inl l ↦ not_both count l.0 some | inr r ↦ r.1 ]) (λ f h. (some, h)) (λ f h. h.1))
 
 blocks_step_law : {A : Type 0} (reads : List ℕ → A → List ℕ → Type 0) (fails : List ℕ → Spot → Type 0) (reader : List ℕ → Answer A) → ((bytes : List ℕ) → Law bytes (reads bytes) (fails bytes) (reader bytes)) → (more : ℕ) (bytes : List ℕ)
     → ((after : List ℕ) → length after < length bytes → Law after (ReadsAll reads after) (FailsAll reads fails after) (blocks_at reader more after)) → Law bytes (ReadsAll reads bytes) (FailsAll reads fails bytes) (blocks_at reader (suc more) bytes)
@@ -130,12 +130,12 @@ unfolding blocks_at after_count
 blocks_step_law reads fails reader law more bytes others =
     let count = count_law bytes in
     law_as (ReadsAll reads bytes) (FailsAll reads fails bytes)
-      (law_then (Counted reads) (FailsCounting reads fails) (after_count reader more) count
-        (λ n mid e. let shorter : length mid < length bytes = count_shorter bytes n mid (count.found n mid e) in elim (zero_or_more n) [
-          | inl z ↦ counted_zero reads fails reader more n mid z
-          | inr some ↦ counted_some reads fails reader law more n mid (λ after le. others after (omega arith)) some
-        ]))
-      (λ ys rest h. blocks_to reads bytes ys rest h) (λ ys rest h. blocks_back reads bytes ys rest h) (λ f h. fails_blocks_to reads fails bytes f h) (λ f h. fails_blocks_back reads fails bytes f h)
+    (law_then (Counted reads) (FailsCounting reads fails) (after_count reader more) count
+    (λ n mid e. let shorter : length mid < length bytes = count_shorter bytes n mid (count.found n mid e) in elim (zero_or_more n) [
+      | inl z ↦ counted_zero reads fails reader more n mid z
+      | inr some ↦ counted_some reads fails reader law more n mid (λ after le. others after (omega arith)) some
+    ]))
+    (λ ys rest h. blocks_to reads bytes ys rest h) (λ ys rest h. blocks_back reads bytes ys rest h) (λ f h. fails_blocks_to reads fails bytes f h) (λ f h. fails_blocks_back reads fails bytes f h)
 
 no_blocks : {A : Type 0} (reader : List ℕ → Answer A) (bytes : List ℕ) → bytes ≡ [] → blocks_at reader 0 bytes ≡ blocks_at reader (suc 0) bytes
 unfolding blocks_at count_at counted_at groups_at
@@ -145,7 +145,7 @@ pub blocks_law : {A : Type 0} (reads : List ℕ → A → List ℕ → Type 0) (
     → (more : ℕ) (bytes : List ℕ) → length bytes ≤ more → Law bytes (ReadsAll reads bytes) (FailsAll reads fails bytes) (blocks_at reader more bytes)
 blocks_law reads fails reader law zero bytes le =
     law_along (blocks_at reader (suc 0) bytes) (blocks_at reader 0 bytes) (no_blocks reader bytes (nil_from_length bytes (omega arith)))
-      (blocks_step_law reads fails reader law 0 bytes (λ after lt. absurd (omega arith)))
+    (blocks_step_law reads fails reader law 0 bytes (λ after lt. absurd (omega arith)))
 blocks_law reads fails reader law (suc more) bytes le = blocks_step_law reads fails reader law more bytes (λ after lt. blocks_law reads fails reader law more after (omega arith))
 
 -- ---- datums
@@ -183,9 +183,9 @@ boolean_law bytes = record {
       let value : datum.Boolean p.0 ≡ d = same_value (datum.Boolean p.0) d p.1 rest p.3 in
       subst (λ (x : Datum). ReadsBoolean bytes x rest) value (subst (λ (t : List ℕ). ReadsBoolean bytes (datum.Boolean p.0) t) same (boolean_found bytes p.0 p.1 p.2)));
   only = λ d rest h. elim h [
-      | inl l ↦ ap (λ t. under datum.Boolean (boolean_at t)) l.0 ∙ ap (λ (x : Datum). done x rest) (sym l.1)
-      | inr r ↦ ap (λ t. under datum.Boolean (boolean_at t)) r.0 ∙ ap (λ (x : Datum). done x rest) (sym r.1)
-    ];
+    | inl l ↦ ap (λ t. under datum.Boolean (boolean_at t)) l.0 ∙ ap (λ (x : Datum). done x rest) (sym l.1)
+    | inr r ↦ ap (λ t. under datum.Boolean (boolean_at t)) r.0 ∙ ap (λ (x : Datum). done x rest) (sym r.1)
+  ];
   fault = λ f e. elim (bind_err (boolean_at bytes) (λ x. Ok (datum.Boolean x.0, x.1)) f e) [ inl l ↦ boolean_fault bytes f l | inr r ↦ absurd (ok_no_err (datum.Boolean r.0) r.1 f r.3) ];
   first = λ f h. ap (under datum.Boolean) (boolean_first bytes f h);
   parts = λ d rest e. (let p = bind_ok (boolean_at bytes) (λ x. Ok (datum.Boolean x.0, x.1)) d rest e in
@@ -208,6 +208,7 @@ index_in limit bytes index rest (n, r, (even, lt), e) = omega arith
 
 mutual
   unfolding datum_at fields_at branch_at Reads ReadsFields ReadsBranch Fails FailsFields FailsBranch
+
   pub datum_law : (s : Shape) (bytes : List ℕ) → Law bytes (Reads s bytes) (Fails s bytes) (datum_at s bytes)
   datum_law null_shape bytes = law_ok datum.Null bytes
   datum_law boolean_shape bytes = boolean_law bytes
@@ -222,7 +223,7 @@ mutual
   datum_law (union_shape branches) bytes =
       let index = index_law (shape_count branches) bytes in
       law_then (λ branch after. As (datum.Union branch) (ReadsBranch branches branch after)) (FailsBranch branches) (λ branch. under (datum.Union branch.0) (branch_at branches branch.0 branch.1)) index
-        (λ branch after e. law_under (datum.Union branch) (branch_law branches branch after (index_in (shape_count branches) bytes branch after (index.found branch after e))))
+      (λ branch after e. law_under (datum.Union branch) (branch_law branches branch after (index_in (shape_count branches) bytes branch after (index.found branch after e))))
   datum_law (fixed_shape size) bytes = law_under datum.Fixed (front_law size bytes)
 
   pub fields_law : (ss : Shapes) (bytes : List ℕ) → Law bytes (ReadsFields ss bytes) (FailsFields ss bytes) (fields_at ss bytes)

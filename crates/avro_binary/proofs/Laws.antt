@@ -86,7 +86,7 @@ pub law_where : {A B : Type 0} {bytes : List ℕ} {reads : A → List ℕ → Ty
     → Tells test rule breaks → Law bytes reads fails answer → Law bytes (Where reads rule value) (FailsWhere fails reads breaks e) (answer >>= checked test value e)
 law_where {A = A} {B = B} {bytes = bytes} {reads = reads} {fails = fails} {answer = answer} test rule breaks value e tells a = record {
   found = λ y rest h. let p = bind_ok answer (checked test value e) y rest h in let g = guarded_ok (test p.0 p.1) (value p.0) y p.1 rest e p.3 in
-    (p.0, a.found p.0 rest (p.2 ∙ ap (λ (t : List ℕ). done p.0 t) g.2), subst (λ (t : List ℕ). rule p.0 t) g.2 (tells.keeps p.0 p.1 g.0), g.1);
+      (p.0, a.found p.0 rest (p.2 ∙ ap (λ (t : List ℕ). done p.0 t) g.2), subst (λ (t : List ℕ). rule p.0 t) g.2 (tells.keeps p.0 p.1 g.0), g.1);
   only = λ y rest h. ap (λ r. r >>= checked test value e) (a.only h.0 rest h.1) ∙ ap (λ (b : Bool). cond b (done (value h.0) rest) (Err e)) (tells.kept h.0 rest h.2) ∙ ap (λ (z : B). done z rest) (sym h.3);
   fault = λ f h. elim (bind_err answer (checked test value e) f h) [ inl l ↦ inl (a.fault f l) | inr r ↦ (let g = guarded_err (test r.0 r.1) (value r.0) r.1 e f r.3 in inr (r.0, r.1, a.found r.0 r.1 r.2, tells.fails r.0 r.1 g.0, g.1)) ];
   first = λ f h. elim h [ inl l ↦ ap (λ r. r >>= checked test value e) (a.first f l) | inr r ↦ (ap (λ r. r >>= checked test value e) (a.only r.0 r.1 r.2) ∙ ap (λ (b : Bool). cond b (done (value r.0) r.1) (Err e)) (tells.failed r.0 r.1 r.3) ∙ ap (λ (g : Spot). Err g) (sym r.4)) ];

@@ -4,3 +4,4 @@ pub mod Laws
 pub mod NumberLaws
 pub mod PartLaws
 pub mod DatumLaws
+pub mod Answered

@@ -38,7 +38,7 @@ groups_found (suc most) whole (b ∷ bytes) n rest e = elim (cases_lt b 128) [
       let few : length r.spelling ≤ most = r.few in
       let value : n ≡ b % 128 + 128 * p.0 = g.1 in
       record { spelling = b ∷ r.spelling; parts = ap (λ (t : List ℕ). b ∷ t) (r.parts ∙ ap (λ (t : List ℕ). r.spelling ++ t) g.2); few = omega arith; is = number_more b r.spelling p.0 n le g.1 r.is; fits = omega arith })
-  ]
+]
 
 again : (most : ℕ) (whole spelling rest : List ℕ) (n : ℕ) → length spelling ≤ most → IsNumber spelling n → n < 2 ^ 64 → groups_at most whole (spelling ++ rest) ≡ Ok (n, rest)
 again most whole [] rest n few is fits = absurd is
@@ -64,14 +64,14 @@ groups_fault (suc most) whole [] f e = inl (record { go_on = tt; few = omega ari
 groups_fault (suc most) whole (b ∷ bytes) f e = elim (cases_lt b 128) [
   | inl lt ↦ absurd (ok_no_err b bytes f (sym (last_group most b whole bytes lt) ∙ e))
   | inr le ↦ elim (bind_err (groups_at most whole bytes) (onto b whole) f (sym (more_groups most b whole bytes le) ∙ e)) [
-      | inl l ↦ fails_behind most whole b bytes f le (groups_fault most whole bytes f l)
-      | inr r ↦ (let g = guarded_err (ltb r.0 (2 ^ 57)) (b % 128 + 128 * r.0) r.1 (spot Long whole) f r.3 in
-          let high = groups_found most whole bytes r.0 r.1 r.2 in
-          let big : 2 ^ 57 ≤ r.0 = ltb-false r.0 (2 ^ 57) g.0 in
-          let few : length high.spelling ≤ most = high.few in
-          inr (inr (record { spelling = b ∷ high.spelling; rest = r.1; number = b % 128 + 128 * r.0; parts = ap (λ (t : List ℕ). b ∷ t) high.parts; few = omega arith; is = number_more b high.spelling r.0 (b % 128 + 128 * r.0) le refl high.is; wide = omega arith }), g.1))
-    ]
+    | inl l ↦ fails_behind most whole b bytes f le (groups_fault most whole bytes f l)
+    | inr r ↦ (let g = guarded_err (ltb r.0 (2 ^ 57)) (b % 128 + 128 * r.0) r.1 (spot Long whole) f r.3 in
+        let high = groups_found most whole bytes r.0 r.1 r.2 in
+        let big : 2 ^ 57 ≤ r.0 = ltb-false r.0 (2 ^ 57) g.0 in
+        let few : length high.spelling ≤ most = high.few in
+        inr (inr (record { spelling = b ∷ high.spelling; rest = r.1; number = b % 128 + 128 * r.0; parts = ap (λ (t : List ℕ). b ∷ t) high.parts; few = omega arith; is = number_more b high.spelling r.0 (b % 128 + 128 * r.0) le refl high.is; wide = omega arith }), g.1))
   ]
+]
 
 ends : (most : ℕ) (whole bytes : List ℕ) → GoOn bytes → length bytes < most → groups_at most whole bytes ≡ Err ended
 unfolding groups_at

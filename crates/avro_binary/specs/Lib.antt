@@ -3,3 +3,4 @@ pub mod Number
 pub mod Shape
 pub mod Reading
 pub mod Grammar
+pub mod Fault
