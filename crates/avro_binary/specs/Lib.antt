@@ -4,3 +4,5 @@ pub mod Shape
 pub mod Reading
 pub mod Grammar
 pub mod Fault
+pub mod Word
+pub mod Naming

@@ -4,13 +4,17 @@
 mod datum;
 mod fault;
 mod leaf;
+pub mod names;
 pub mod number;
 mod read;
 pub mod reading;
 mod schema;
+mod schema_fault;
+pub mod word;
 
 pub use datum::{Datum, MapPair};
 pub use fault::DatumFault;
 pub use plain_types::{Boxed, Bytes as Octets, Items};
 pub use read::{one_answer, read_datum};
+pub use schema_fault::SchemaFault;
 pub use schema::{Field, Logical, Schema};
