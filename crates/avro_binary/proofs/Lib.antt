@@ -5,3 +5,4 @@ pub mod NumberLaws
 pub mod PartLaws
 pub mod DatumLaws
 pub mod Answered
+pub mod Placing

@@ -6,3 +6,4 @@ pub mod Grammar
 pub mod Fault
 pub mod Word
 pub mod Naming
+pub mod Placed

@@ -1,11 +1,13 @@
 //! Reads and writes of Avro schemas and datums.
 #![tactic(auto)]
 
+pub mod copies;
 mod datum;
 mod fault;
 mod leaf;
 pub mod names;
 pub mod number;
+pub mod placed;
 mod read;
 pub mod reading;
 mod schema;
@@ -16,5 +18,5 @@ pub use datum::{Datum, MapPair};
 pub use fault::DatumFault;
 pub use plain_types::{Boxed, Bytes as Octets, Items};
 pub use read::{one_answer, read_datum};
-pub use schema_fault::SchemaFault;
 pub use schema::{Field, Logical, Schema};
+pub use schema_fault::SchemaFault;

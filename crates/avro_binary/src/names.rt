@@ -43,13 +43,7 @@ pub fn space_of(name: &[u8]) -> &[u8]
     ensures { result.now ≡ space_of name.now }
 {
     match last_dot(name) {
-        Some(at) => {
-            if at <= name.len() {
-                &name[..at]
-            } else {
-                name
-            }
-        }
+        Some(at) => { if at <= name.len() { &name[..at] } else { name } }
         None => &name[..0],
     }
 }
