@@ -7,3 +7,4 @@ pub mod Fault
 pub mod Word
 pub mod Naming
 pub mod Placed
+pub mod SchemaText

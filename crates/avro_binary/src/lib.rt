@@ -4,6 +4,7 @@
 pub mod copies;
 mod datum;
 mod fault;
+pub mod keys;
 mod leaf;
 pub mod names;
 pub mod number;
