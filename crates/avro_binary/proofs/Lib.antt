@@ -6,3 +6,4 @@ pub mod PartLaws
 pub mod DatumLaws
 pub mod Answered
 pub mod Placing
+pub mod Each

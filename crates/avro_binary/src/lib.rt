@@ -13,6 +13,7 @@ mod read;
 pub mod reading;
 mod schema;
 mod schema_fault;
+pub mod schema_text;
 pub mod word;
 
 pub use datum::{Datum, MapPair};
