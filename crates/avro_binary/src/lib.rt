@@ -13,6 +13,7 @@ mod read;
 pub mod reading;
 mod schema;
 mod schema_fault;
+mod schema_reader;
 pub mod schema_text;
 pub mod word;
 
@@ -22,3 +23,4 @@ pub use plain_types::{Boxed, Bytes as Octets, Items};
 pub use read::{one_answer, read_datum};
 pub use schema::{Field, Logical, Schema};
 pub use schema_fault::SchemaFault;
+pub use schema_reader::read_schema;
