@@ -1,7 +1,7 @@
 -- Numbers are read by their grammar.
 use Rattle.std.proofs.Common.{◌≡◌, ◌⊎◌, ℕ, zero, suc, ◌+◌, ◌*◌, ◌%◌, ◌^◌, ◌<◌, ◌≤◌, Bool, true, false, cond, ltb, List, [], ◌∷◌, ◌++◌, length, Ok, Err, refl, sym, ap, subst, ◌∙◌, inl, inr, arith}
 use Rattle.std.proofs.lemmas.Bool.{cases_lt, ltb-true, ltb-false, lt-ltb, le-ltb}
-use Rattle.avro_binary.specs.declared.fault.Kind.TheVariants.{Long}
+use Rattle.avro_binary.specs.declared.fault.FaultKind.TheVariants.{Long}
 use Rattle.avro_binary.specs.declared.fault.Spot.{Spot}
 use Rattle.avro_binary.specs.Answer.{Answer, ◌>>=◌, ended, spot}
 use Rattle.avro_binary.specs.Number.{groups_at}

@@ -4,7 +4,7 @@ use Rattle.std.specs.Str.{is_utf8, IsUtf8}
 use Rattle.std.proofs.lemmas.Str.{IsUtf8-from_is_utf8, is_utf8-from_IsUtf8}
 use Rattle.std.proofs.lemmas.Bool.{cases_lt, ltb-true, ltb-false, lt-ltb, le-ltb, leb-true, leb-false, le-leb, lt-leb, eqb-true}
 use Rattle.std.proofs.lemmas.List.{take_at, drop_at, take-append-drop, length-append, length-take}
-use Rattle.avro_binary.specs.declared.fault.Kind.TheVariants.{Long, Branch, Text, Size}
+use Rattle.avro_binary.specs.declared.fault.FaultKind.TheVariants.{Long, Branch, Text, Size}
 use Rattle.avro_binary.specs.declared.fault.Spot.{Spot}
 use Rattle.avro_binary.specs.Answer.{Answer, ◌>>=◌, ended, spot}
 use Rattle.avro_binary.specs.Number.{signed, groups_at, number_at, int_at, long_at, length_at, index_at, front_at, bytes_at, text_at, count_of, counted_at, count_at}

@@ -1,6 +1,6 @@
 -- The shapes of a list of schemas.
 use Rattle.std.proofs.Common.{◌≡◌, ℕ, zero, suc, List, [], ◌∷◌, map, length, Option, Some, None, slice_get, refl, ap, Err}
-use Rattle.avro_binary.specs.declared.fault.Kind.TheVariants.{Branch}
+use Rattle.avro_binary.specs.declared.fault.FaultKind.TheVariants.{Branch}
 use Rattle.avro_binary.specs.declared.schema.Schema.{Schema}
 use Rattle.avro_binary.specs.declared.schema.Schema.TheFolds.{fold_out-Field}
 use Rattle.avro_binary.specs.declared.schema.Field.{Field}

@@ -1,7 +1,7 @@
 -- How a part of a datum is read: a value and the bytes after it, or the first fault.
 use Rattle.std.specs.Prelude.{◌≡◌, ℕ, List, length, Result, Ok, Err}
-use Rattle.avro_binary.specs.declared.fault.Kind.{Kind}
-use Rattle.avro_binary.specs.declared.fault.Kind.TheVariants.{Short}
+use Rattle.avro_binary.specs.declared.fault.FaultKind.{FaultKind}
+use Rattle.avro_binary.specs.declared.fault.FaultKind.TheVariants.{Short}
 use Rattle.avro_binary.specs.declared.fault.Spot.{Spot}
 use Rattle.avro_binary.specs.declared.fault.Stop.{Stop}
 use Rattle.avro_binary.specs.declared.fault.Stop.TheVariants.{Memory, At}
@@ -20,7 +20,7 @@ abbrev pub ended : Spot
 ended = record { kind = Short; left = 0 }
 
 -- a fault that begins where these bytes do
-abbrev pub spot : Kind → List ℕ → Spot
+abbrev pub spot : FaultKind → List ℕ → Spot
 spot kind bytes = record { kind = kind; left = length bytes }
 
 -- Why a function stopped is the fault of the reading, unless memory ran out.

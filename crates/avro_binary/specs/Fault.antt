@@ -1,7 +1,7 @@
 -- Faults by the place where they begin, in a text of a known length.
 use Rattle.std.specs.Prelude.{◌≡◌, ◌⊎◌, ℕ, ◌-◌, ◌≤◌, List, length, drop, Result, Ok, Err}
-use Rattle.avro_binary.specs.declared.fault.Kind as kinds
-use Rattle.avro_binary.specs.declared.fault.Kind.TheVariants as kind
+use Rattle.avro_binary.specs.declared.fault.FaultKind as kinds
+use Rattle.avro_binary.specs.declared.fault.FaultKind.TheVariants as kind
 use Rattle.avro_binary.specs.declared.fault.Spot.{Spot}
 use Rattle.avro_binary.specs.declared.fault.Stop.{Stop}
 use Rattle.avro_binary.specs.declared.fault.Stop.TheVariants as stop
@@ -13,7 +13,7 @@ use Rattle.avro_binary.specs.Shape.{Shape}
 use Rattle.avro_binary.specs.Grammar.{Fails}
 
 -- a fault of this kind, by its place
-abbrev pub fault_at : kinds.Kind → ℕ → DatumFault
+abbrev pub fault_at : kinds.FaultKind → ℕ → DatumFault
 fault_at kind.Short place = Short place
 fault_at kind.Long place = Long place
 fault_at kind.Branch place = Branch place

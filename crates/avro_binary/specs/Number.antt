@@ -2,8 +2,8 @@
 -- first, each byte but the last with its high bit set; a signed number n stands as 2n, or as -2n - 1 below 0.
 use Rattle.std.specs.Prelude.{ℕ, zero, suc, min, ◌+◌, ◌-◌, ◌*◌, ◌/◌, ◌%◌, ◌^◌, ℤ, pos, negsuc, List, [], ◌∷◌, length, take, drop, Result, Ok, Err, nat_lt, nat_le, ◌==◌, ◌&&◌, if◌then◌else◌}
 use Rattle.std.specs.Str.{is_utf8}
-use Rattle.avro_binary.specs.declared.fault.Kind.{Kind}
-use Rattle.avro_binary.specs.declared.fault.Kind.TheVariants.{Short, Long, Branch, Text, Size}
+use Rattle.avro_binary.specs.declared.fault.FaultKind.{FaultKind}
+use Rattle.avro_binary.specs.declared.fault.FaultKind.TheVariants.{Short, Long, Branch, Text, Size}
 use Rattle.avro_binary.specs.declared.fault.Spot.{Spot}
 use Rattle.avro_binary.specs.Answer.{Answer, ◌>>=◌, ended, spot}
 

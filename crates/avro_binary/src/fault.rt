@@ -20,7 +20,7 @@ pub enum DatumFault {
 }
 
 #[derive(Clone, Copy, Debug, PartialEq, Eq)]
-pub enum Kind {
+pub enum FaultKind {
     Short,
     Long,
     Branch,
@@ -31,7 +31,7 @@ pub enum Kind {
 /// A fault, and how many bytes are left where it begins.
 #[derive(Clone, Copy, Debug, PartialEq, Eq)]
 pub struct Spot {
-    pub kind: Kind,
+    pub kind: FaultKind,
     pub left: usize,
 }
 
@@ -60,16 +60,16 @@ impl<T: Drop> From<AllocFailed<T>> for Stop {
 
 /// The fault of bytes that end.
 pub fn short() -> Stop
-    ensures { result ≡ Stop.At (record { kind = Kind.Short; left = 0 }) }
+    ensures { result ≡ Stop.At (record { kind = FaultKind.Short; left = 0 }) }
 {
     Stop::At(Spot {
-        kind: Kind::Short,
+        kind: FaultKind::Short,
         left: 0,
     })
 }
 
 /// The fault that begins where these bytes do.
-pub fn fault(kind: Kind, bytes: &[u8]) -> Stop
+pub fn fault(kind: FaultKind, bytes: &[u8]) -> Stop
     ensures { result ≡ Stop.At (record { kind = kind; left = length bytes.now }) }
 {
     Stop::At(Spot {

@@ -6,7 +6,7 @@ ghost use Rattle.avro_binary.specs.Shape.{boolean_shape, int_shape, long_shape, 
 ghost use Rattle.avro_binary.specs.Reading.{datum_at, boolean_at};
 
 use crate::datum::Datum;
-use crate::fault::{Kind, Stop, fault, short};
+use crate::fault::{FaultKind, Stop, fault, short};
 use crate::number::{bytes_at, front_at, index_at, int_at, long_at, text_at};
 use plain_types::Bytes as Octets;
 use std::alloc::Global;
@@ -19,7 +19,7 @@ fn boolean_at(bytes: &[u8]) -> Result<(bool, &[u8]), Stop>
         [] => Err(short()),
         [0, rest @ ..] => Ok((false, rest)),
         [1, rest @ ..] => Ok((true, rest)),
-        [_, ..] => Err(fault(Kind::Branch, bytes)),
+        [_, ..] => Err(fault(FaultKind::Branch, bytes)),
     }
 }
 

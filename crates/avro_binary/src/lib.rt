@@ -1,26 +1,32 @@
-//! Reads and writes of Avro schemas and datums.
+//! Avro's binary encoding: reads a schema from JSON, and datums of a schema from bytes.
+//!
+//! What is read is exactly what the grammar of the encoding has, and a fault is the first one from left to
+//! right, at its place. A reader of a part answers the bytes after it, or a fault with how many bytes are
+//! left where it begins; so parts put together need no place, and it is reckoned once, at the top.
 #![tactic(auto)]
 
-pub mod copies;
+mod copies;
 mod datum;
 mod fault;
-pub mod keys;
+mod keys;
 mod leaf;
-pub mod names;
-pub mod number;
-pub mod placed;
+mod names;
+mod number;
+mod placed;
 mod read;
-pub mod reading;
+mod reading;
 mod schema;
 mod schema_fault;
 mod schema_reader;
-pub mod schema_text;
-pub mod word;
+mod schema_text;
+mod word;
 
 pub use datum::{Datum, MapPair};
-pub use fault::DatumFault;
+pub use fault::{DatumFault, FaultKind, Spot, Stop};
+pub use number::{bytes_at, count_at, front_at, length_at, long_at, text_at};
 pub use plain_types::{Boxed, Bytes as Octets, Items};
-pub use read::{one_answer, read_datum};
+pub use read::{fault_of, one_answer, read_datum};
+pub use reading::{datum_at, datums_at};
 pub use schema::{Field, Logical, Schema};
 pub use schema_fault::SchemaFault;
 pub use schema_reader::read_schema;

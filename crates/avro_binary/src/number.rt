@@ -3,7 +3,7 @@ ghost use Rattle.std.specs.Str.{is_utf8};
 ghost use Rattle.avro_binary.specs.Answer.{Gives};
 ghost use Rattle.avro_binary.specs.Number.{signed, groups_at, number_at, int_at, long_at, length_at, index_at, front_at, bytes_at, text_at, counted_at, count_at};
 
-use crate::fault::{Kind, Stop, fault, short};
+use crate::fault::{FaultKind, Stop, fault, short};
 
 /// The groups that follow in the number that begins at `whole`, at most `more` of them.
 #[tactic(auto, unfolding(crate::specs::Number::groups_at))]
@@ -11,7 +11,7 @@ fn groups_at<'a>(more: u32, whole: &[u8], bytes: &'a [u8]) -> Result<(u64, &'a [
     ensures { Gives (λ x. (x.0, x.1.now)) result (groups_at more whole.now bytes.now) }
 {
     if more == 0 {
-        return Err(fault(Kind::Long, whole));
+        return Err(fault(FaultKind::Long, whole));
     }
     match bytes {
         [] => Err(short()),
@@ -23,7 +23,7 @@ fn groups_at<'a>(more: u32, whole: &[u8], bytes: &'a [u8]) -> Result<(u64, &'a [
             if high < 0x200_0000_0000_0000 {
                 Ok((u64::from(*byte % 128) + 128 * high, after))
             } else {
-                Err(fault(Kind::Long, whole))
+                Err(fault(FaultKind::Long, whole))
             }
         }
     }
@@ -57,7 +57,7 @@ pub fn int_at(bytes: &[u8]) -> Result<(i32, &[u8]), Stop>
     if number < 0x1_0000_0000 {
         Ok((signed_of_int(number as u32), rest))
     } else {
-        Err(fault(Kind::Long, bytes))
+        Err(fault(FaultKind::Long, bytes))
     }
 }
 
@@ -77,7 +77,7 @@ pub fn length_at(bytes: &[u8]) -> Result<(u64, &[u8]), Stop>
     if number % 2 == 0 {
         Ok((number / 2, rest))
     } else {
-        Err(fault(Kind::Size, bytes))
+        Err(fault(FaultKind::Size, bytes))
     }
 }
 
@@ -89,7 +89,7 @@ pub fn index_at(limit: usize, bytes: &[u8]) -> Result<(u32, &[u8]), Stop>
     if number % 2 == 0 && number / 2 < (limit as u64).min(0x1_0000_0000) {
         Ok(((number / 2) as u32, rest))
     } else {
-        Err(fault(Kind::Branch, bytes))
+        Err(fault(FaultKind::Branch, bytes))
     }
 }
 
@@ -130,7 +130,7 @@ pub fn text_at(bytes: &[u8]) -> Result<(&[u8], &[u8]), Stop>
     if is_text(text) {
         Ok((text, rest))
     } else {
-        Err(fault(Kind::Text, bytes))
+        Err(fault(FaultKind::Text, bytes))
     }
 }
 
@@ -142,7 +142,7 @@ fn counted_at(bytes: &[u8]) -> Result<(u64, &[u8]), Stop>
     if number / 2 + number % 2 <= rest.len() as u64 {
         Ok((number, rest))
     } else {
-        Err(fault(Kind::Size, bytes))
+        Err(fault(FaultKind::Size, bytes))
     }
 }
 

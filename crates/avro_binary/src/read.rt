@@ -4,24 +4,31 @@ ghost use Rattle.avro_binary.specs.declared.fault.Spot.{Spot as At};
 ghost use Rattle.avro_binary.specs.Shape.{Shape, shape};
 ghost use Rattle.avro_binary.specs.Reading.{datum_at};
 ghost use Rattle.avro_binary.specs.Grammar.{Reads, Fails};
-ghost use Rattle.avro_binary.specs.Fault.{fault_from, fault_at, Answers, MayFail};
+ghost use Rattle.avro_binary.specs.Fault.{fault_of, fault_from, fault_at, Answers, MayFail};
 
 use crate::datum::Datum;
-use crate::fault::{DatumFault, Kind, Stop};
+use crate::fault::{DatumFault, FaultKind, Spot, Stop};
 use crate::reading::datum_at;
 use crate::schema::Schema;
 use std::alloc::Global;
 
-fn fault_at(kind: Kind, place: usize) -> DatumFault
+fn fault_at(kind: FaultKind, place: usize) -> DatumFault
     ensures { result ≡ fault_at kind place }
 {
     match kind {
-        Kind::Short => DatumFault::Short(place),
-        Kind::Long => DatumFault::Long(place),
-        Kind::Branch => DatumFault::Branch(place),
-        Kind::Text => DatumFault::Text(place),
-        Kind::Size => DatumFault::Size(place),
+        FaultKind::Short => DatumFault::Short(place),
+        FaultKind::Long => DatumFault::Long(place),
+        FaultKind::Branch => DatumFault::Branch(place),
+        FaultKind::Text => DatumFault::Text(place),
+        FaultKind::Size => DatumFault::Size(place),
     }
+}
+
+/// A fault in a text of this length, by its place.
+pub fn fault_of(whole: usize, spot: Spot) -> DatumFault
+    ensures { result ≡ fault_of whole spot }
+{
+    fault_at(spot.kind, whole.saturating_sub(spot.left))
 }
 
 fn fault_from(whole: usize, stop: Stop) -> DatumFault
@@ -29,7 +36,7 @@ fn fault_from(whole: usize, stop: Stop) -> DatumFault
 {
     match stop {
         Stop::Memory => DatumFault::Memory,
-        Stop::At(spot) => fault_at(spot.kind, whole.saturating_sub(spot.left)),
+        Stop::At(spot) => fault_of(whole, spot),
     }
 }
 

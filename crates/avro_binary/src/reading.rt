@@ -6,7 +6,7 @@ ghost use Rattle.avro_binary.specs.Shape.{shape, shapes, field_shape, record_sha
 ghost use Rattle.avro_binary.specs.Reading.{datum_at, fields_at, items_at, blocks_at, pair_at, branch_at};
 
 use crate::datum::{Datum, MapPair};
-use crate::fault::{Kind, Stop, fault, short};
+use crate::fault::{FaultKind, Stop, fault, short};
 use crate::leaf::{
     boolean_datum, bytes_datum, enum_datum, fixed_datum, int_datum, long_datum, text_datum,
 };
@@ -15,6 +15,7 @@ use crate::schema::{Field, Schema};
 use plain_types::{Boxed, Bytes as Octets, Items};
 use std::alloc::Global;
 
+/// The datum at the front of the bytes, and the bytes after it.
 #[cycle(reading)]
 #[tactic(auto, unfolding(crate::specs::Reading::datum_at))]
 pub fn datum_at<'a>(
@@ -103,7 +104,7 @@ fn branch_at<'a>(
 {
     match branches.get(branch) {
         Some(schema) => datum_at(alloc, schema, bytes),
-        None => Err(fault(Kind::Branch, bytes)),
+        None => Err(fault(FaultKind::Branch, bytes)),
     }
 }
 
@@ -135,15 +136,16 @@ fn array_blocks<'a>(
         if count == 0 {
             return Ok((all, after));
         }
-        let (mut block, after) = array_items(alloc, items, count, after)?;
+        let (mut block, after) = datums_at(alloc, items, count, after)?;
         all.append(&mut block)?;
         rest = after;
     }
     Err(short())
 }
 
+/// So many datums of the schema, one after another, and the bytes after them.
 #[cycle(reading)]
-fn array_items<'a>(
+pub fn datums_at<'a>(
     alloc: Global,
     items: &Schema,
     count: u64,

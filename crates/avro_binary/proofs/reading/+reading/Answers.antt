@@ -5,17 +5,17 @@ use Rattle.avro_binary.specs.Reading.{datum_at, fields_at, items_at, blocks_at, 
 use Rattle.avro_binary.proofs.Loops.{ne-eqb, items_goes, items_stops, items_done, blocks_ends, blocks_goes, blocks_stops_at_count, blocks_stops_at_items, blocks_out, fields_goes, fields_stops, fields_done}
 use Rattle.avro_binary.proofs.reading.+reading.Goals as goal
 
-pub array_items-returns-in_err-value : goal.array_items-returns-in_err-value
-array_items-returns-in_err-value t c =
+pub datums_at-returns-in_err-value : goal.datums_at-returns-in_err-value
+datums_at-returns-in_err-value t c =
     let p = err_from_is_err_and c.from_residual.result c.from_residual.ensures.1 in
     rw (p.1, p.2) (items_stops c.in_err-value.field-0.0 (datum_at (shape c.args.items.now)) c.loop.values.items c.args.count c.loop.counter c.loop.rest.now (items_at (datum_at (shape c.args.items.now)) c.args.count c.args.bytes.now) c.loop-test.true c.in_err-value.ensures c.loop.invariant)
 
-pub array_items-loop-preserved : goal.array_items-loop-preserved
-array_items-loop-preserved t c =
+pub datums_at-loop-preserved : goal.datums_at-loop-preserved
+datums_at-loop-preserved t c =
     rw c.in_ok-push.ensures.items (items_goes (datum_at (shape c.args.items.now)) c.loop.values.items c.args.count c.loop.counter c.loop.rest.now c.in_ok-value.value c.in_ok-value.after.now (items_at (datum_at (shape c.args.items.now)) c.args.count c.args.bytes.now) c.loop-test.true c.in_ok-value.ensures c.loop.invariant)
 
-pub array_items-returns : goal.array_items-returns
-array_items-returns t c = items_done (datum_at (shape c.args.items.now)) c.loop.values.items c.args.count c.loop.counter c.loop.rest.now (items_at (datum_at (shape c.args.items.now)) c.args.count c.args.bytes.now) c.loop-test.false c.loop.invariant
+pub datums_at-returns : goal.datums_at-returns
+datums_at-returns t c = items_done (datum_at (shape c.args.items.now)) c.loop.values.items c.args.count c.loop.counter c.loop.rest.now (items_at (datum_at (shape c.args.items.now)) c.args.count c.args.bytes.now) c.loop-test.false c.loop.invariant
 
 pub array_blocks-returns-in_err-count : goal.array_blocks-returns-in_err-count
 array_blocks-returns-in_err-count t c =

@@ -7,8 +7,8 @@ use Rattle.avro_binary.proofs.reading.+reading.Given as goal
 abbrev pub invariant-array_blocks-loop : goal.invariant-array_blocks-loop
 invariant-array_blocks-loop l = with_front l.all.items (blocks_at (datum_at (shape l.items)) (length l.bytes - l.counter) l.rest) ≡ blocks_at (datum_at (shape l.items)) (length l.bytes) l.bytes
 
-abbrev pub invariant-array_items-loop : goal.invariant-array_items-loop
-invariant-array_items-loop l = with_front l.values.items (items_at (datum_at (shape l.items)) (l.count - l.counter) l.rest) ≡ items_at (datum_at (shape l.items)) l.count l.bytes
+abbrev pub invariant-datums_at-loop : goal.invariant-datums_at-loop
+invariant-datums_at-loop l = with_front l.values.items (items_at (datum_at (shape l.items)) (l.count - l.counter) l.rest) ≡ items_at (datum_at (shape l.items)) l.count l.bytes
 
 abbrev pub invariant-fields_at-loop-field : goal.invariant-fields_at-loop-field
 invariant-fields_at-loop-field l = with_front l.values.items (fields_at (shapes (map field_shape (drop l.field-index l.fields))) l.rest) ≡ fields_at (shapes (map field_shape l.fields)) l.bytes
