@@ -19,6 +19,8 @@ mod schema;
 mod schema_fault;
 mod schema_reader;
 mod schema_text;
+#[cfg(test)]
+mod tests;
 mod word;
 
 pub use datum::{Datum, MapPair};

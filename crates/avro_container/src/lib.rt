@@ -9,6 +9,8 @@ mod container;
 mod fault;
 mod header;
 mod pairs;
+#[cfg(test)]
+mod tests;
 
 pub use block::next_block;
 pub use container::{Container, read_container};
