@@ -1,5 +1,5 @@
 -- From the law of a shape to the clauses of a call.
-use Rattle.std.proofs.Common.{◌≡◌, ◌⊎◌, ℕ, ◌+◌, ◌-◌, ◌≤◌, List, [], ◌∷◌, ◌++◌, length, drop, Result, Ok, Err, refl, sym, ap, subst, ◌∙◌, inl, inr, arith}
+use Rattle.std.proofs.Common.{◌≡◌, ◌⊎◌, ℕ, ◌+◌, ◌-◌, ◌≤◌, List, ◌++◌, length, drop, Result, Ok, Err, refl, sym, ap, ◌∙◌, inl, inr, arith}
 use Rattle.std.specs.Prelude.{IfOk, IfErr, MatchResult}
 use Rattle.std.proofs.lemmas.List.{drop_at, length-append}
 use Rattle.avro_binary.specs.declared.fault.Spot.{Spot}
@@ -8,10 +8,10 @@ use Rattle.avro_binary.specs.declared.fault.Stop.TheVariants as stop
 use Rattle.avro_binary.specs.declared.fault.DatumFault.{DatumFault}
 use Rattle.avro_binary.specs.declared.fault.DatumFault.TheVariants.{Memory}
 use Rattle.avro_binary.specs.declared.datum.Datum.{Datum}
-use Rattle.avro_binary.specs.Answer.{Answer, Stops}
+use Rattle.avro_binary.specs.Answer.{Stops}
 use Rattle.avro_binary.specs.Shape.{Shape}
 use Rattle.avro_binary.specs.Reading.{datum_at}
-use Rattle.avro_binary.specs.Grammar.{Reads, Fails}
+use Rattle.avro_binary.specs.Grammar.{Reads}
 use Rattle.avro_binary.specs.Fault.{fault_of, fault_from, Answers, MayFail}
 use Rattle.avro_binary.proofs.Laws.{done, same_value, same_rest, ok_no_err}
 use Rattle.avro_binary.proofs.DatumLaws.{datum_law}

@@ -1,20 +1,20 @@
 -- Datums of every shape are read by their grammar.
-use Rattle.std.proofs.Common.{◌≡◌, ◌⊎◌, ℕ, zero, suc, ◌+◌, ◌<◌, ◌≤◌, Bool, true, false, cond, eqb, List, [], ◌∷◌, ◌++◌, length, Ok, Err, refl, sym, ap, subst, ◌∙◌, inl, inr, arith}
-use Rattle.std.proofs.lemmas.Bool.{cases_lt, eqb-true}
-use Rattle.std.proofs.lemmas.List.{length-append, append-nil, nil_from_length}
+use Rattle.std.proofs.Common.{◌≡◌, ◌⊎◌, ℕ, zero, suc, ◌<◌, ◌≤◌, Bool, true, false, cond, eqb, List, [], ◌∷◌, ◌++◌, length, Ok, Err, refl, sym, ap, subst, ◌∙◌, inl, inr, arith}
+use Rattle.std.proofs.lemmas.Bool.{cases_lt}
+use Rattle.std.proofs.lemmas.List.{length-append, nil_from_length}
 use Rattle.avro_binary.specs.declared.fault.FaultKind.TheVariants.{Branch}
 use Rattle.avro_binary.specs.declared.fault.Spot.{Spot}
 use Rattle.avro_binary.specs.declared.datum.Datum.{Datum}
 use Rattle.avro_binary.specs.declared.datum.Datum.TheVariants as datum
 use Rattle.avro_binary.specs.declared.datum.MapPair.{MapPair}
 use Rattle.avro_binary.specs.Answer.{Answer, ◌>>=◌, ended, spot}
-use Rattle.avro_binary.specs.Number.{count_at, counted_at, index_at, groups_at}
+use Rattle.avro_binary.specs.Number.{count_at, counted_at, groups_at}
 use Rattle.avro_binary.specs.Shape.{Shape, null_shape, boolean_shape, int_shape, long_shape, bytes_shape, text_shape, record_shape, enum_shape, array_shape, map_shape, union_shape, fixed_shape, Shapes, no_shapes, more_shapes, shape_count}
 use Rattle.avro_binary.specs.Reading.{under, boolean_at, items_at, blocks_at, pair_at, datum_at, fields_at, branch_at}
-use Rattle.avro_binary.specs.Grammar.{Then, FailsThen, As, ReadsGroups, ReadsNumber, ReadsIndex, FailsIndex, ReadsCount, FailsCount, ReadsEach, FailsAfter, ReadsItems, FailsItems, ReadsBlock, FailsBlock, ReadsBlocks, joined, ReadsAll, FailsAll, ReadsBoolean, FailsBoolean, ReadsPair, FailsPair, ReadsText, FailsText, Reads, ReadsFields, ReadsBranch, Fails, FailsFields, FailsBranch, IsNumber}
-use Rattle.avro_binary.proofs.Laws.{Law, done, same_value, same_rest, bind_ok, bind_err, ok_no_err, err_no_ok, law_then, law_under, law_ok, law_as, law_along, law_err}
+use Rattle.avro_binary.specs.Grammar.{Then, FailsThen, As, ReadsNumber, ReadsIndex, ReadsCount, FailsCount, ReadsItems, FailsItems, joined, ReadsAll, FailsAll, ReadsBoolean, FailsBoolean, ReadsPair, FailsPair, Reads, ReadsFields, ReadsBranch, Fails, FailsFields, FailsBranch, IsNumber}
+use Rattle.avro_binary.proofs.Laws.{Law, done, same_value, same_rest, bind_ok, bind_err, ok_no_err, err_no_ok, law_then, law_under, law_ok, law_as, law_along}
 use Rattle.avro_binary.proofs.Loops.{ne-eqb}
-use Rattle.avro_binary.proofs.PartLaws.{int_law, long_law, length_law, index_law, front_law, bytes_law, text_law, count_law}
+use Rattle.avro_binary.proofs.PartLaws.{int_law, long_law, index_law, front_law, bytes_law, text_law, count_law}
 
 -- ---- items
 

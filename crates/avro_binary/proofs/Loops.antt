@@ -1,8 +1,7 @@
 -- Reading items, blocks and fields one after the other, as loops do.
-use Rattle.std.proofs.Common.{◌≡◌, ℕ, suc, ◌-◌, ◌+◌, ◌≤◌, ◌<◌, List, [], ◌∷◌, ◌++◌, length, drop, get_or, map, Result, Ok, Err, refl, sym, ap, ◌∙◌, ◌≢◌, append_assoc, arith, add-one, drop-cons, cond, eqb, true, false, Bool}
+use Rattle.std.proofs.Common.{◌≡◌, ℕ, suc, ◌-◌, ◌+◌, ◌≤◌, ◌<◌, List, [], ◌∷◌, ◌++◌, length, drop, get_or, map, Ok, Err, refl, sym, ap, ◌∙◌, ◌≢◌, append_assoc, arith, add-one, drop-cons, cond, eqb, true, false, Bool}
 use Rattle.std.proofs.lemmas.Bool.{eqb-true}
 use Rattle.std.proofs.lemmas.List.{append-nil, drop_all}
-use Rattle.avro_binary.specs.declared.fault.Spot.{Spot}
 use Rattle.avro_binary.specs.declared.fault.Stop.{Stop}
 use Rattle.avro_binary.specs.declared.fault.Stop.TheVariants.{Memory, At}
 use Rattle.avro_binary.specs.declared.datum.Datum.{Datum}

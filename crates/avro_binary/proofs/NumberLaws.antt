@@ -1,11 +1,11 @@
 -- Numbers are read by their grammar.
-use Rattle.std.proofs.Common.{◌≡◌, ◌⊎◌, ℕ, zero, suc, ◌+◌, ◌*◌, ◌%◌, ◌^◌, ◌<◌, ◌≤◌, Bool, true, false, cond, ltb, List, [], ◌∷◌, ◌++◌, length, Ok, Err, refl, sym, ap, subst, ◌∙◌, inl, inr, arith}
+use Rattle.std.proofs.Common.{◌≡◌, ℕ, zero, suc, ◌+◌, ◌*◌, ◌%◌, ◌^◌, ◌<◌, ◌≤◌, Bool, true, false, cond, ltb, List, [], ◌∷◌, ◌++◌, length, Ok, Err, refl, sym, ap, ◌∙◌, inl, inr, arith}
 use Rattle.std.proofs.lemmas.Bool.{cases_lt, ltb-true, ltb-false, lt-ltb, le-ltb}
 use Rattle.avro_binary.specs.declared.fault.FaultKind.TheVariants.{Long}
 use Rattle.avro_binary.specs.declared.fault.Spot.{Spot}
 use Rattle.avro_binary.specs.Answer.{Answer, ◌>>=◌, ended, spot}
 use Rattle.avro_binary.specs.Number.{groups_at}
-use Rattle.avro_binary.specs.Grammar.{IsNumber, GoOn, ReadsGroups, EndsIn, GoesPast, IsWide, FailsGroups}
+use Rattle.avro_binary.specs.Grammar.{IsNumber, GoOn, ReadsGroups, FailsGroups}
 use Rattle.avro_binary.proofs.Laws.{Law, done, same_value, same_rest, ok_no_err, err_no_ok, bind_ok, bind_err, guarded_ok, guarded_err}
 
 number_more : (b : ℕ) (spelling : List ℕ) (high n : ℕ) → 128 ≤ b → n ≡ b % 128 + 128 * high → IsNumber spelling high → IsNumber (b ∷ spelling) n

@@ -1,5 +1,5 @@
 -- Lengths, indexes, bytes, texts, counts and blocks are read by their grammar.
-use Rattle.std.proofs.Common.{◌≡◌, ◌⊎◌, ℕ, zero, suc, min, ◌+◌, ◌*◌, ◌/◌, ◌%◌, ◌^◌, ◌<◌, ◌≤◌, Bool, true, false, cond, ltb, leb, eqb, ◌&&◌, List, [], ◌∷◌, ◌++◌, length, take, drop, Ok, Err, refl, sym, ap, subst, ◌∙◌, inl, inr, arith, append_assoc}
+use Rattle.std.proofs.Common.{◌≡◌, ◌⊎◌, ℕ, min, ◌+◌, ◌/◌, ◌%◌, ◌^◌, ◌<◌, ◌≤◌, Bool, true, false, cond, ltb, leb, eqb, ◌&&◌, List, [], ◌++◌, length, take, drop, Ok, Err, refl, sym, ap, ◌∙◌, inl, inr, arith}
 use Rattle.std.specs.Str.{is_utf8, IsUtf8}
 use Rattle.std.proofs.lemmas.Str.{IsUtf8-from_is_utf8, is_utf8-from_IsUtf8}
 use Rattle.std.proofs.lemmas.Bool.{cases_lt, ltb-true, ltb-false, lt-ltb, le-ltb, leb-true, leb-false, le-leb, lt-leb, eqb-true}
@@ -7,11 +7,10 @@ use Rattle.std.proofs.lemmas.List.{take_at, drop_at, take-append-drop, length-ap
 use Rattle.avro_binary.specs.declared.fault.FaultKind.TheVariants.{Long, Branch, Text, Size}
 use Rattle.avro_binary.specs.declared.fault.Spot.{Spot}
 use Rattle.avro_binary.specs.Answer.{Answer, ◌>>=◌, ended, spot}
-use Rattle.avro_binary.specs.Number.{signed, groups_at, number_at, int_at, long_at, length_at, index_at, front_at, bytes_at, text_at, count_of, counted_at, count_at}
+use Rattle.avro_binary.specs.Number.{signed, number_at, int_at, long_at, length_at, index_at, front_at, bytes_at, text_at, count_of, counted_at, count_at}
 use Rattle.avro_binary.specs.Reading.{under}
-use Rattle.avro_binary.specs.Grammar.{Then, FailsThen, Where, FailsWhere, As, ReadsNumber, FailsNumber, ReadsInt, FailsInt, ReadsLong, ReadsLength, FailsLength, IsIndex, ReadsIndex, FailsIndex, ReadsFront, FailsFront, ReadsBytes, FailsBytes, ReadsText, FailsText, ReadsCounted, FailsCounted, ReadsSize, FailsSize, ReadsCount, FailsCount}
-use Rattle.avro_binary.proofs.Laws.{Law, done, same_value, same_rest, ok_no_err, err_no_ok, bind_ok, bind_err, guarded_ok, guarded_err, law_then, law_under, law_where, law_ok, Tells, checked}
-use Rattle.avro_binary.proofs.Loops.{ne-eqb}
+use Rattle.avro_binary.specs.Grammar.{ReadsNumber, FailsNumber, ReadsInt, FailsInt, ReadsLong, ReadsLength, FailsLength, IsIndex, ReadsIndex, FailsIndex, ReadsFront, FailsFront, ReadsBytes, FailsBytes, ReadsText, FailsText, ReadsCounted, FailsCounted, ReadsSize, FailsSize, ReadsCount, FailsCount}
+use Rattle.avro_binary.proofs.Laws.{Law, done, same_value, same_rest, ok_no_err, err_no_ok, law_then, law_under, law_where, Tells}
 use Rattle.avro_binary.proofs.NumberLaws.{groups_law}
 
 number_law : (bytes : List ℕ) → Law bytes (ReadsNumber bytes) (FailsNumber bytes) (number_at bytes)

@@ -1,11 +1,11 @@
 -- The shapes of a list of schemas.
-use Rattle.std.proofs.Common.{◌≡◌, ℕ, zero, suc, List, [], ◌∷◌, map, length, Option, Some, None, slice_get, refl, ap, Err}
+use Rattle.std.proofs.Common.{◌≡◌, ℕ, zero, suc, List, [], ◌∷◌, map, length, Some, None, slice_get, refl, ap, Err}
 use Rattle.avro_binary.specs.declared.fault.FaultKind.TheVariants.{Branch}
 use Rattle.avro_binary.specs.declared.schema.Schema.{Schema}
 use Rattle.avro_binary.specs.declared.schema.Schema.TheFolds.{fold_out-Field}
 use Rattle.avro_binary.specs.declared.schema.Field.{Field}
 use Rattle.avro_binary.specs.Answer.{spot}
-use Rattle.avro_binary.specs.Shape.{Shape, Shapes, level, field_level, shape, field_shape, shapes, shape_count}
+use Rattle.avro_binary.specs.Shape.{Shape, level, field_level, shape, field_shape, shapes, shape_count}
 use Rattle.avro_binary.specs.Reading.{datum_at, branch_at}
 
 pub shape_count_is : (ss : List Schema) → shape_count (shapes (map shape ss)) ≡ length ss

@@ -1,10 +1,8 @@
 -- Numbers of the binary encoding (Avro 1.11.1, 'Binary Encoding', 'Primitive Types'): groups of seven bits, the lowest
 -- first, each byte but the last with its high bit set; a signed number n stands as 2n, or as -2n - 1 below 0.
-use Rattle.std.specs.Prelude.{ℕ, zero, suc, min, ◌+◌, ◌-◌, ◌*◌, ◌/◌, ◌%◌, ◌^◌, ℤ, pos, negsuc, List, [], ◌∷◌, length, take, drop, Result, Ok, Err, nat_lt, nat_le, ◌==◌, ◌&&◌, if◌then◌else◌}
+use Rattle.std.specs.Prelude.{ℕ, zero, suc, min, ◌+◌, ◌*◌, ◌/◌, ◌%◌, ◌^◌, ℤ, pos, negsuc, List, [], ◌∷◌, length, take, drop, Ok, Err, nat_lt, nat_le, ◌==◌, ◌&&◌, if◌then◌else◌}
 use Rattle.std.specs.Str.{is_utf8}
-use Rattle.avro_binary.specs.declared.fault.FaultKind.{FaultKind}
-use Rattle.avro_binary.specs.declared.fault.FaultKind.TheVariants.{Short, Long, Branch, Text, Size}
-use Rattle.avro_binary.specs.declared.fault.Spot.{Spot}
+use Rattle.avro_binary.specs.declared.fault.FaultKind.TheVariants.{Long, Branch, Text, Size}
 use Rattle.avro_binary.specs.Answer.{Answer, ◌>>=◌, ended, spot}
 
 -- the groups of a number of at most `more` bytes that is part of the number that begins at `whole`, which is below 2 ^ 64

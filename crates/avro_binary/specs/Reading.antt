@@ -1,7 +1,6 @@
 -- Reading a datum from left to right (Avro 1.11.1, 'Binary Encoding'), with the first fault that is met.
-use Rattle.std.specs.Prelude.{ℕ, zero, suc, Bool, true, false, List, [], ◌∷◌, ◌++◌, length, Result, Ok, Err, ◌==◌, if◌then◌else◌}
+use Rattle.std.specs.Prelude.{ℕ, zero, suc, Bool, true, false, List, [], ◌∷◌, ◌++◌, length, Ok, Err, ◌==◌, if◌then◌else◌}
 use Rattle.avro_binary.specs.declared.fault.FaultKind.TheVariants.{Branch}
-use Rattle.avro_binary.specs.declared.fault.Spot.{Spot}
 use Rattle.avro_binary.specs.declared.datum.Datum.{Datum}
 use Rattle.avro_binary.specs.declared.datum.Datum.TheVariants as datum
 use Rattle.avro_binary.specs.declared.datum.MapPair.{MapPair}

@@ -1,4 +1,4 @@
-use Rattle.std.proofs.Common.{◌≡◌, map, ap, sym, ◌∙◌}
+use Rattle.std.proofs.Common.{map, ap, sym, ◌∙◌}
 use Rattle.avro_binary.specs.Placed.{placed, placed_field, place_each}
 use Rattle.avro_binary.proofs.Placing.{placed_field_is, places_on, places_no_more, places_all}
 use Rattle.avro_binary.proofs.placed.+placed.Goals as goal

@@ -1,7 +1,7 @@
-use Rattle.std.proofs.Common.{◌≡◌, ℕ, length, map, List, [], ◌∷◌, ◌++◌, eq-eqb}
+use Rattle.std.proofs.Common.{length, map, eq-eqb}
 use Rattle.std.proofs.lemmas.Result.{err_from_is_err_and}
 use Rattle.avro_binary.specs.Shape.{shape, shapes, field_shape}
-use Rattle.avro_binary.specs.Reading.{datum_at, fields_at, items_at, blocks_at, pair_at, branch_at}
+use Rattle.avro_binary.specs.Reading.{datum_at, fields_at, items_at, blocks_at, pair_at}
 use Rattle.avro_binary.proofs.Loops.{ne-eqb, items_goes, items_stops, items_done, blocks_ends, blocks_goes, blocks_stops_at_count, blocks_stops_at_items, blocks_out, fields_goes, fields_stops, fields_done}
 use Rattle.avro_binary.proofs.reading.+reading.Goals as goal
 

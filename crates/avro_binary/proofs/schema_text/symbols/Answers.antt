@@ -1,7 +1,6 @@
-use Rattle.std.proofs.Common.{◌≡◌, ◌++◌, ◌∷◌, [], ◌-◌}
 use Rattle.std.proofs.lemmas.Result.{err_from_is_err_and}
 use Rattle.serde_json.specs.View.{items_view}
-use Rattle.avro_binary.specs.SchemaText.{each, symbol, field, schema_at}
+use Rattle.avro_binary.specs.SchemaText.{each, symbol}
 use Rattle.avro_binary.proofs.Each.{each_goes, each_stops, each_done}
 use Rattle.avro_binary.proofs.schema_text.symbols.Goals as goal
 
