@@ -1,6 +1,6 @@
 -- A block of a container (Avro 1.11.1, 'Object Container Files'): a count, a size, that many bytes of datums, and the
 -- header's sync bytes.
-use Rattle.std.specs.Prelude.{ℕ, ◌-◌, ℤ, pos, negsuc, Bool, List, [], ◌∷◌, length, take, drop, Option, Some, None, Result, Ok, Err, nat_le, ◌==◌, if◌then◌else◌}
+use Rattle.std.specs.Prelude.{ℕ, ℤ, pos, negsuc, List, length, take, drop, Option, Some, None, Result, Ok, Err, nat_le, ◌==◌, if◌then◌else◌}
 use Rattle.std.specs.Str.{bytes_eq}
 use Rattle.avro_binary.specs.declared.datum.Datum as datums
 use Rattle.avro_binary.specs.declared.fault.Spot as spots

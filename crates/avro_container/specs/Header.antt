@@ -1,5 +1,5 @@
 -- The header of a container (Avro 1.11.1, 'Object Container Files').
-use Rattle.std.specs.Prelude.{ℕ, Bool, List, [], ◌∷◌, length, take, drop, Option, Some, None, Result, Ok, Err, codes, if◌then◌else◌}
+use Rattle.std.specs.Prelude.{ℕ, List, [], ◌∷◌, length, take, drop, Option, Some, None, Result, Ok, Err, codes, if◌then◌else◌}
 use Rattle.std.specs.Str.{bytes_eq}
 use Rattle.avro_binary.specs.declared.schema.Schema as schemas
 use Rattle.avro_binary.specs.declared.schema_fault.SchemaFault as schema_faults

@@ -1,5 +1,5 @@
 -- The metadata of a header: a map from text to bytes, whose keys are distinct (Avro 1.11.1, 'Object Container Files').
-use Rattle.std.specs.Prelude.{ℕ, zero, suc, ◌-◌, Bool, true, false, not, List, [], ◌∷◌, ◌++◌, length, Option, Some, None, is_some, Result, Ok, Err, ◌==◌, ◌||◌, codes, if◌then◌else◌}
+use Rattle.std.specs.Prelude.{ℕ, zero, suc, ◌-◌, Bool, List, [], ◌∷◌, ◌++◌, length, Option, Some, None, is_some, Result, Ok, Err, ◌==◌, ◌||◌, codes, if◌then◌else◌}
 use Rattle.std.specs.Str.{bytes_eq}
 use Rattle.avro_binary.specs.Number.{text_at, bytes_at, count_at}
 use Rattle.avro_container.specs.declared.fault.ContainerFault.{ContainerFault}

@@ -1,4 +1,4 @@
-use Rattle.std.proofs.Common.{◌≡◌, ◌-◌, ℕ, List, [], length}
+use Rattle.std.proofs.Common.{◌-◌, [], length}
 use Rattle.std.proofs.lemmas.Result.{err_from_is_err_and}
 use Rattle.avro_binary.specs.Shape.{shape}
 use Rattle.avro_container.specs.Container.{blocks_at}

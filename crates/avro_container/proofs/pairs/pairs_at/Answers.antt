@@ -1,4 +1,3 @@
-use Rattle.std.proofs.Common.{◌≡◌, ◌++◌, ◌∷◌, [], ◌-◌}
 use Rattle.std.proofs.lemmas.Result.{err_from_is_err_and}
 use Rattle.avro_container.specs.Pairs.{pairs_at}
 use Rattle.avro_container.proofs.Loops.{pairs_goes, pairs_stops, pairs_done}
