@@ -1,0 +1,13 @@
+//! Predicates and expressions of SQL over one row: SQL's three-valued logic, arithmetic that answers
+//! an overflow, and a form of a predicate without NOT that is as true on every row.
+#![tactic(auto)]
+
+mod evaluation;
+mod pred;
+mod truth;
+
+pub use evaluation::eval;
+pub use plain_types::{Boxed, List};
+pub use pred::{Op, Operand, Pred};
+pub use row_values::{Row, Value};
+pub use truth::Truth;
