@@ -4,11 +4,13 @@
 mod kind;
 mod order;
 mod partition;
+mod row;
 mod schema;
 mod value;
 
 pub use kind::Kind;
 pub use partition::{PartField, Spec, Transform};
 pub use plain_types::{Bytes, List, Text};
+pub use row::copy_row;
 pub use schema::{Column, TableSchema};
 pub use value::{Row, Value};

@@ -1,4 +1,7 @@
+ghost use Rattle.std.specs.Prelude.{◌≡◌, IfOk};
+
 use plain_types::{Bytes, List, Text};
+use std::alloc::{AllocError, Global};
 
 /// A value of some kind, or NULL.
 #[derive(Debug, PartialEq, Drop)]
@@ -15,6 +18,27 @@ pub enum Value {
     Decimal { unscaled: i128, scale: u8 },
     Text(Text),
     Bytes(Bytes),
+}
+
+impl Value {
+    pub fn copy(&self, alloc: Global) -> Result<Value, AllocError>
+        ensures { IfOk result (λ v. v ≡ self.now) }
+    {
+        match self {
+            Value::Null => Ok(Value::Null),
+            Value::Bool(b) => Ok(Value::Bool(*b)),
+            Value::Int(n) => Ok(Value::Int(*n)),
+            Value::Long(n) => Ok(Value::Long(*n)),
+            Value::Date(days) => Ok(Value::Date(*days)),
+            Value::Timestamp(micros) => Ok(Value::Timestamp(*micros)),
+            Value::Decimal { unscaled, scale } => Ok(Value::Decimal {
+                unscaled: *unscaled,
+                scale: *scale,
+            }),
+            Value::Text(text) => Ok(Value::Text(Text::copy_of(alloc, text.as_str())?)),
+            Value::Bytes(bytes) => Ok(Value::Bytes(Bytes::copy_of(alloc, bytes.as_slice())?)),
+        }
+    }
 }
 
 /// One value for each column of a schema, in order.
