@@ -1,2 +1,3 @@
+pub mod Exprs
 pub mod Positions
 pub mod Truth

@@ -34,7 +34,7 @@ fn is_null_at(row: &[Value], at: usize) -> bool
     requires { at < length row.now }
     ensures { result ≡ is_null (value_at row.now at) }
 {
-    matches!(row[at], Value::Null)
+    matches!(value_at(row, at), Value::Null)
 }
 
 fn compare(op: Op, left: &Operand, right: &Operand, row: &[Value]) -> Truth
@@ -53,9 +53,17 @@ fn value_of<'a>(operand: &'a Operand, row: &'a [Value]) -> &'a Value
     ensures { result.now ≡ operand_value row.now operand.now }
 {
     match operand {
-        Operand::Column(at) => &row[*at],
+        Operand::Column(at) => value_at(row, *at),
         Operand::Literal(value) => value,
     }
+}
+
+/// The value of the column at a position.
+pub fn value_at(row: &[Value], at: usize) -> &Value
+    requires { at < length row.now }
+    ensures { result.now ≡ spec.value_at row.now at }
+{
+    &row[at]
 }
 
 fn holds(op: Op, order: Ordering) -> bool

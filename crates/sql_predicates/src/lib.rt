@@ -2,11 +2,16 @@
 //! an overflow, and a form of a predicate without NOT that is as true on every row.
 #![tactic(auto)]
 
+mod arithmetic;
 mod evaluation;
+mod expr;
+mod expression;
 mod pred;
 mod truth;
 
 pub use evaluation::eval;
+pub use expr::{Expr, ExprFault};
+pub use expression::eval_expr;
 pub use plain_types::{Boxed, List};
 pub use pred::{Op, Operand, Pred};
 pub use row_values::{Row, Value};
