@@ -6,12 +6,14 @@ mod arithmetic;
 mod evaluation;
 mod expr;
 mod expression;
+mod normal_form;
 mod pred;
 mod truth;
 
 pub use evaluation::eval;
 pub use expr::{Expr, ExprFault};
 pub use expression::eval_expr;
+pub use normal_form::normal;
 pub use plain_types::{Boxed, List};
 pub use pred::{Op, Operand, Pred};
 pub use row_values::{Row, Value};

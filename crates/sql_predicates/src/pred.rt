@@ -1,5 +1,8 @@
+ghost use Rattle.std.specs.Prelude.{◌≡◌, IfOk};
+
 use plain_types::Boxed;
 use row_values::Value;
+use std::alloc::{AllocError, Global};
 
 /// How two values are compared.
 #[derive(Clone, Copy, Debug, PartialEq, Eq)]
@@ -17,6 +20,17 @@ pub enum Op {
 pub enum Operand {
     Column(usize),
     Literal(Value),
+}
+
+impl Operand {
+    pub fn copy(&self, alloc: Global) -> Result<Operand, AllocError>
+        ensures { IfOk result (λ o. o ≡ self.now) }
+    {
+        match self {
+            Operand::Column(at) => Ok(Operand::Column(*at)),
+            Operand::Literal(value) => Ok(Operand::Literal(value.copy(alloc)?)),
+        }
+    }
 }
 
 /// A predicate over one row. A number names the column at that position.
