@@ -1,8 +1,11 @@
-ghost use Rattle.std.specs.Prelude.{◌≡◌, if◌then◌else◌, IfOk};
+ghost use Rattle.std.specs.Prelude.{◌≡◌, ℕ, List, if◌then◌else◌, IsTrue, IfOk};
 ghost use Rattle.sql_predicates.specs.declared.pred.Pred.{roll-Pred};
 ghost use Rattle.sql_predicates.specs.declared.pred.Pred.TheOpen as open_pred;
+ghost use Rattle.sql_predicates.specs.Positions.{pred_is_within};
+ghost use Rattle.sql_predicates.specs.Truth.{truth};
+ghost use Rattle.row_values.specs.declared.value.Value.{Value};
 ghost use Rattle.sql_predicates.specs.NormalForm as spec;
-ghost use Rattle.sql_predicates.specs.NormalForm.{normal_form};
+ghost use Rattle.sql_predicates.specs.NormalForm.{normal_form, has_no_not};
 
 use crate::{Boxed, Op, Operand, Pred};
 use std::alloc::{AllocError, Global};
@@ -10,6 +13,9 @@ use std::alloc::{AllocError, Global};
 /// An equal predicate without NOT.
 pub fn normal(alloc: Global, pred: &Pred) -> Result<Pred, AllocError>
     ensures form { IfOk result (λ p. p ≡ normal_form pred.now) }
+    ensures positive { IfOk result (λ p. IsTrue (has_no_not p)) }
+    ensures truth { IfOk result (λ p. (row : List Value) → truth p row ≡ truth pred.now row) }
+    ensures positions { IfOk result (λ p. (width : ℕ) → pred_is_within width p ≡ pred_is_within width pred.now) }
 {
     normal_of(alloc, pred, false)
 }
