@@ -7,7 +7,10 @@ mod evaluation;
 mod expr;
 mod expression;
 mod normal_form;
+mod positions;
 mod pred;
+#[cfg(test)]
+mod tests;
 mod truth;
 
 pub use evaluation::eval;

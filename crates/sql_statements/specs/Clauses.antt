@@ -1,0 +1,99 @@
+-- MERGE INTO (Iceberg's Spark pages, "MERGE INTO"): which clause applies to a row, what it does, and when two source rows for
+-- one target row are refused. A row in sight is a target row and then a source row; the side that is missing is NULLs.
+use Rattle.std.specs.Prelude.{ℕ, ◌+◌, Bool, true, false, not, ◌&&◌, nat_le, if◌then◌else◌, List, [], ◌∷◌, ◌++◌, map, filter, length, replicate, Option, Some, None, slice_get}
+use Rattle.std.specs.List.{list_any, flat_map}
+use Rattle.row_values.specs.declared.value.Value.{Value}
+use Rattle.row_values.specs.declared.value.Value.TheVariants as value
+use Rattle.sql_predicates.specs.declared.truth.Truth.{Truth}
+use Rattle.sql_predicates.specs.declared.truth.Truth.TheVariants.{True}
+use Rattle.sql_predicates.specs.declared.pred.Pred.{Pred, fold-Pred}
+use Rattle.sql_predicates.specs.declared.pred.Pred.TheOpen as open_pred
+use Rattle.sql_predicates.specs.Truth.{truth}
+use Rattle.sql_statements.specs.declared.statement.When.{When}
+use Rattle.sql_statements.specs.declared.statement.When.TheVariants.{Matched, NotMatched, NotMatchedBySource}
+use Rattle.sql_statements.specs.declared.statement.Action.{Action}
+use Rattle.sql_statements.specs.declared.statement.Action.TheVariants as action
+use Rattle.sql_statements.specs.declared.statement.Clause.{Clause}
+use Rattle.sql_statements.specs.declared.effect.Effect.{Effect}
+use Rattle.sql_statements.specs.declared.effect.Effect.TheVariants.{Keep, Remove, Replace}
+use Rattle.sql_statements.specs.NewRows.{NewRow, new_row, updated}
+
+abbrev pub is_true : Truth → Bool
+is_true True = true
+is_true _ = false
+
+-- the predicate is True of the row
+abbrev pub holds_on : Pred → List Value → Bool
+holds_on pred row = is_true (truth pred row)
+
+-- as many NULLs
+abbrev pub nulls : ℕ → List Value
+nulls width = replicate width value.Null
+
+-- the target row beside each source row for which ON is True
+abbrev pub matches : Pred → List (List Value) → List Value → List (List Value)
+matches on rows target = filter (holds_on on) (map (λ row. target ++ row) rows)
+
+-- some target row matches the source row
+abbrev pub is_matched : Pred → List (List Value) → List Value → Bool
+is_matched on targets row = list_any (λ target. holds_on on (target ++ row)) targets
+
+abbrev pub is_when : When → When → Bool
+is_when Matched Matched = true
+is_when NotMatched NotMatched = true
+is_when NotMatchedBySource NotMatchedBySource = true
+is_when _ _ = false
+
+-- the action of the first such clause whose condition is True
+abbrev pub chosen : When → List Clause → List Value → Option Action
+chosen when [] sight = None
+chosen when (c ∷ clauses) sight =
+    if is_when c.when when && holds_on c.condition sight then Some c.action else chosen when clauses sight
+
+-- what the action does with a target row; no INSERT stands there
+abbrev pub acted : List Value → List Value → Option Action → Effect
+acted target sight (Some (action.Update sets)) = Replace (updated sets sight target)
+acted target sight (Some action.Delete) = Remove
+acted target sight (Some (action.Insert exprs)) = Keep
+acted target sight None = Keep
+
+-- with a source row the first of them decides, with none the clauses for rows without a source row
+abbrev pub effect_by : List Clause → List Value → List Value → List (List Value) → Effect
+effect_by clauses target padding (sight ∷ sights) = acted target sight (chosen Matched clauses sight)
+effect_by clauses target padding [] = acted target (target ++ padding) (chosen NotMatchedBySource clauses (target ++ padding))
+
+-- the row that an INSERT makes
+abbrev pub inserted_by : List Value → Option Action → List NewRow
+inserted_by sight (Some (action.Insert exprs)) = new_row sight exprs ∷ []
+inserted_by sight _ = []
+
+-- the rows that one source row brings
+abbrev pub insertion : Pred → List Clause → List (List Value) → List Value → List Value → List NewRow
+insertion on clauses targets padding row =
+    if is_matched on targets row then [] else inserted_by (padding ++ row) (chosen NotMatched clauses (padding ++ row))
+
+abbrev pub const_level : open_pred.Pred-F Bool → Bool
+const_level (open_pred.Const b) = b
+const_level _ = false
+
+-- the constant TRUE, which as a condition counts as none
+abbrev pub is_const_true : Pred → Bool
+is_const_true = fold-Pred Bool const_level
+
+abbrev pub is_delete : Action → Bool
+is_delete action.Delete = true
+is_delete _ = false
+
+-- a DELETE without a condition may stand alone; with any other clause beside or in its place one source row must be chosen
+abbrev pub wants_one : List Clause → Bool
+wants_one [] = false
+wants_one (c ∷ []) = not (is_delete c.action && is_const_true c.condition)
+wants_one (c ∷ d ∷ clauses) = true
+
+-- two source rows for one target row are refused
+abbrev pub refuses_two : List Clause → Bool
+refuses_two clauses = wants_one (filter (λ (c : Clause). is_when c.when Matched) clauses)
+
+-- some target row has two source rows
+abbrev pub has_two : Pred → List (List Value) → List (List Value) → Bool
+has_two on rows targets = list_any (λ target. nat_le 2 (length (matches on rows target))) targets

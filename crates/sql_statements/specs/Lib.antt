@@ -1,0 +1,4 @@
+pub mod Clauses
+pub mod Effects
+pub mod Fits
+pub mod NewRows

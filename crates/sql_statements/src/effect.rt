@@ -1,0 +1,23 @@
+use crate::{List, Value};
+
+/// A new row as computed, in which a value that overflowed is absent.
+pub type NewRow = List<Option<Value>>;
+
+/// What a statement does with a row.
+#[derive(Debug, PartialEq, Drop)]
+pub enum Effect {
+    Keep,
+    Remove,
+    Replace(NewRow),
+}
+
+/// Why a statement is refused.
+#[derive(Clone, Copy, Debug, PartialEq, Eq)]
+pub enum SqlRefusal {
+    /// Two source rows for one target row.
+    Cardinality,
+    /// A value that its kind or its column cannot hold.
+    Overflow,
+    /// NULL in the required column at this position.
+    Null(usize),
+}

@@ -1,0 +1,13 @@
+//! What the statements mean. A statement decides for each row of a branch whether it is kept, removed or
+//! replaced, and which rows are inserted, or it is refused. It sees a bag of rows and nothing of files.
+#![tactic(auto)]
+
+mod effect;
+mod new_row;
+mod statement;
+
+pub use effect::{Effect, NewRow, SqlRefusal};
+pub use plain_types::{List, Text};
+pub use row_values::{Column, Row, TableSchema, Value};
+pub use sql_predicates::{Expr, Pred};
+pub use statement::{Action, Clause, Merge, Set, Source, Statement, When};
