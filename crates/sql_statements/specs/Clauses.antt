@@ -1,6 +1,6 @@
 -- MERGE INTO (Iceberg's Spark pages, "MERGE INTO"): which clause applies to a row, what it does, and when two source rows for
 -- one target row are refused. A row in sight is a target row and then a source row; the side that is missing is NULLs.
-use Rattle.std.specs.Prelude.{ℕ, ◌+◌, Bool, true, false, not, ◌&&◌, nat_le, if◌then◌else◌, List, [], ◌∷◌, ◌++◌, map, filter, length, replicate, Option, Some, None, slice_get}
+use Rattle.std.specs.Prelude.{ℕ, ◌+◌, Bool, true, false, not, ◌&&◌, nat_le, if◌then◌else◌, List, [], ◌∷◌, ◌++◌, map, filter, length, replicate, Option, Some, None}
 use Rattle.std.specs.List.{list_any, flat_map}
 use Rattle.row_values.specs.declared.value.Value.{Value}
 use Rattle.row_values.specs.declared.value.Value.TheVariants as value
@@ -30,13 +30,20 @@ holds_on pred row = is_true (truth pred row)
 abbrev pub nulls : ℕ → List Value
 nulls width = replicate width value.Null
 
+-- the target row beside the source row, if ON is True of the two
+unfoldable pub match_of : Pred → List Value → List Value → List (List Value)
+match_of on target row = if holds_on on (target ++ row) then (target ++ row) ∷ [] else []
+
 -- the target row beside each source row for which ON is True
 abbrev pub matches : Pred → List (List Value) → List Value → List (List Value)
-matches on rows target = filter (holds_on on) (map (λ row. target ++ row) rows)
+matches on rows target = flat_map (match_of on target) rows
+
+unfoldable pub is_match : Pred → List Value → List Value → Bool
+is_match on row target = holds_on on (target ++ row)
 
 -- some target row matches the source row
 abbrev pub is_matched : Pred → List (List Value) → List Value → Bool
-is_matched on targets row = list_any (λ target. holds_on on (target ++ row)) targets
+is_matched on targets row = list_any (is_match on row) targets
 
 abbrev pub is_when : When → When → Bool
 is_when Matched Matched = true
@@ -44,11 +51,15 @@ is_when NotMatched NotMatched = true
 is_when NotMatchedBySource NotMatchedBySource = true
 is_when _ _ = false
 
--- the action of the first such clause whose condition is True
+-- the clause is for such rows, and its condition is True
+unfoldable pub applies : When → Clause → List Value → Bool
+applies when c sight = is_when c.when when && holds_on c.condition sight
+
+-- the action of the first clause that applies
 abbrev pub chosen : When → List Clause → List Value → Option Action
 chosen when [] sight = None
 chosen when (c ∷ clauses) sight =
-    if is_when c.when when && holds_on c.condition sight then Some c.action else chosen when clauses sight
+    if applies when c sight then Some c.action else chosen when clauses sight
 
 -- what the action does with a target row; no INSERT stands there
 abbrev pub acted : List Value → List Value → Option Action → Effect
@@ -68,7 +79,7 @@ inserted_by sight (Some (action.Insert exprs)) = new_row sight exprs ∷ []
 inserted_by sight _ = []
 
 -- the rows that one source row brings
-abbrev pub insertion : Pred → List Clause → List (List Value) → List Value → List Value → List NewRow
+unfoldable pub insertion : Pred → List Clause → List (List Value) → List Value → List Value → List NewRow
 insertion on clauses targets padding row =
     if is_matched on targets row then [] else inserted_by (padding ++ row) (chosen NotMatched clauses (padding ++ row))
 
@@ -94,6 +105,9 @@ wants_one (c ∷ d ∷ clauses) = true
 abbrev pub refuses_two : List Clause → Bool
 refuses_two clauses = wants_one (filter (λ (c : Clause). is_when c.when Matched) clauses)
 
+unfoldable pub matches_two : Pred → List (List Value) → List Value → Bool
+matches_two on rows target = nat_le 2 (length (matches on rows target))
+
 -- some target row has two source rows
 abbrev pub has_two : Pred → List (List Value) → List (List Value) → Bool
-has_two on rows targets = list_any (λ target. nat_le 2 (length (matches on rows target))) targets
+has_two on rows targets = list_any (matches_two on rows) targets

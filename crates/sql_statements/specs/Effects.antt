@@ -1,6 +1,6 @@
 -- What each statement does with each row, which rows it inserts, when it is refused, and what it leaves: a function of the
 -- rows of its branch (SQL standard, "Data manipulation"; Iceberg's Spark pages, "Writes").
-use Rattle.std.specs.Prelude.{ℕ, Bool, true, false, ◌&&◌, if◌then◌else◌, List, [], ◌∷◌, ◌++◌, map, length, Option, Some, None, slice_get, Result, Ok, Err}
+use Rattle.std.specs.Prelude.{ℕ, Bool, true, false, ◌&&◌, if◌then◌else◌, List, [], ◌∷◌, ◌++◌, map, length, Option, Some, None, unwrap_or, slice_get, Result, Ok, Err}
 use Rattle.std.specs.List.{list_any, flat_map}
 use Rattle.row_values.specs.declared.value.Value.{Value}
 use Rattle.row_values.specs.declared.schema.Column.{Column}
@@ -15,42 +15,35 @@ use Rattle.sql_statements.specs.declared.effect.SqlRefusal.TheVariants as refuse
 use Rattle.sql_statements.specs.NewRows.{NewRow, new_row, updated, overflows, first_null, row_of}
 use Rattle.sql_statements.specs.Clauses.{holds_on, nulls, matches, effect_by, insertion, refuses_two, has_two}
 
--- the rows and the number of columns of the source at a position
-abbrev pub rows_in : Option Source → List (List Value)
-rows_in None = []
-rows_in (Some source) = source.rows
+-- the source at a position, and one without rows beyond the last
+abbrev pub source_at : List Source → ℕ → Source
+source_at sources at = unwrap_or (slice_get sources at) (record { columns = []; rows = [] })
 
-abbrev pub width_in : Option Source → ℕ
-width_in None = 0
-width_in (Some source) = length source.columns
-
-abbrev pub merge_effect : List Source → Merge → List Value → Effect
-merge_effect sources m row =
-    effect_by m.clauses row (nulls (width_in (slice_get sources m.source))) (matches m.on (rows_in (slice_get sources m.source)) row)
+abbrev pub merge_effect : Merge → Source → List Value → Effect
+merge_effect m source row = effect_by m.clauses row (nulls (length source.columns)) (matches m.on source.rows row)
 
 -- what the statement does with a row of its branch
-abbrev pub effect : List Source → Statement → List Value → Effect
+unfoldable pub effect : List Source → Statement → List Value → Effect
 effect sources (statement.Insert branch rows) row = Keep
 effect sources (statement.Delete branch filter) row = if holds_on filter row then Remove else Keep
 effect sources (statement.Update branch sets filter) row = if holds_on filter row then Replace (updated sets row row) else Keep
-effect sources (statement.Merge m) row = merge_effect sources m row
+effect sources (statement.Merge m) row = merge_effect m (source_at sources m.source) row
 effect sources (statement.CreateBranch branch) row = Keep
 effect sources (statement.DropBranch branch) row = Keep
 effect sources (statement.Select branch filter) row = Keep
 
-abbrev pub merge_insertions : ℕ → List Source → Merge → List (List Value) → List NewRow
-merge_insertions width sources m rows =
-    flat_map (insertion m.on m.clauses rows (nulls width)) (rows_in (slice_get sources m.source))
+abbrev pub merge_insertions : ℕ → Merge → Source → List (List Value) → List NewRow
+merge_insertions width m source rows = flat_map (insertion m.on m.clauses rows (nulls width)) source.rows
 
 -- the rows that the statement inserts into a branch of these rows, which have so many columns
 abbrev pub insertions : ℕ → List Source → Statement → List (List Value) → List NewRow
 insertions width sources (statement.Insert branch tuples) rows = map (new_row []) tuples
-insertions width sources (statement.Merge m) rows = merge_insertions width sources m rows
+insertions width sources (statement.Merge m) rows = merge_insertions width m (source_at sources m.source) rows
 insertions width sources _ rows = []
 
 -- two source rows stand for one target row where one must be chosen
 abbrev pub is_ambiguous : List Source → Statement → List (List Value) → Bool
-is_ambiguous sources (statement.Merge m) rows = refuses_two m.clauses && has_two m.on (rows_in (slice_get sources m.source)) rows
+is_ambiguous sources (statement.Merge m) rows = refuses_two m.clauses && has_two m.on (source_at sources m.source).rows rows
 is_ambiguous sources _ rows = false
 
 abbrev pub replacement : Effect → List NewRow
@@ -58,9 +51,12 @@ replacement Keep = []
 replacement Remove = []
 replacement (Replace row) = row ∷ []
 
+unfoldable pub replacements : List Source → Statement → List Value → List NewRow
+replacements sources s row = replacement (effect sources s row)
+
 -- all rows that the statement makes
 abbrev pub new_rows : ℕ → List Source → Statement → List (List Value) → List NewRow
-new_rows width sources s rows = flat_map (λ row. replacement (effect sources s row)) rows ++ insertions width sources s rows
+new_rows width sources s rows = flat_map (replacements sources s) rows ++ insertions width sources s rows
 
 abbrev pub null_refusal : Option ℕ → Option SqlRefusal
 null_refusal None = None
@@ -81,10 +77,13 @@ remaining Keep row = row ∷ []
 remaining Remove row = []
 remaining (Replace new) row = row_of new ∷ []
 
+unfoldable pub remains : List Source → Statement → List Value → List (List Value)
+remains sources s row = remaining (effect sources s row) row
+
 -- the rows that the statement leaves, where it is not refused
 abbrev pub rows_after : ℕ → List Source → Statement → List (List Value) → List (List Value)
 rows_after width sources s rows =
-    flat_map (λ row. remaining (effect sources s row) row) rows ++ map row_of (insertions width sources s rows)
+    flat_map (remains sources s) rows ++ map row_of (insertions width sources s rows)
 
 abbrev pub unless_refused : {X : Type 0} → Option SqlRefusal → X → Result X SqlRefusal
 unless_refused None x = Ok x

@@ -28,7 +28,7 @@ action_is_within width (action.Update sets) = sets_are_within width sets
 action_is_within width action.Delete = true
 action_is_within width (action.Insert exprs) = exprs_are_within width exprs
 
-abbrev pub clause_is_within : ℕ → Clause → Bool
+unfoldable pub clause_is_within : ℕ → Clause → Bool
 clause_is_within width c = pred_is_within width c.condition && action_is_within width c.action
 
 abbrev pub clauses_are_within : ℕ → List Clause → Bool

@@ -2,8 +2,11 @@
 //! replaced, and which rows are inserted, or it is refused. It sees a bag of rows and nothing of files.
 #![tactic(auto)]
 
+mod clauses;
 mod effect;
+mod faults;
 mod new_row;
+mod plain;
 mod statement;
 
 pub use effect::{Effect, NewRow, SqlRefusal};

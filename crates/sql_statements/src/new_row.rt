@@ -25,10 +25,8 @@ pub fn new_row(alloc: Global, exprs: &[Expr], sight: &Row) -> Result<NewRow, All
     ensures { IfOk result (λ row. row ≡ spec.new_row sight.now exprs.now) }
 {
     let mut row = List::new(alloc);
-    let mut rest = exprs;
-    while let [expr, after @ ..] = rest {
+    for expr in exprs {
         row.push(new_value(alloc, expr, sight)?)?;
-        rest = after;
     }
     Ok(row)
 }
@@ -55,7 +53,12 @@ fn assigned(
 }
 
 /// The old row after all assignments at once.
-pub fn updated(alloc: Global, sets: &[Set], sight: &Row, old: &[Value]) -> Result<NewRow, AllocError>
+pub fn updated(
+    alloc: Global,
+    sets: &[Set],
+    sight: &Row,
+    old: &[Value],
+) -> Result<NewRow, AllocError>
     requires { IsTrue (sets_are_within (length sight.now) sets.now) }
     ensures { IfOk result (λ row. row ≡ spec.updated sets.now sight.now old.now) }
 {
