@@ -1,7 +1,7 @@
 -- MERGE INTO (Iceberg's Spark pages, "MERGE INTO"): which clause applies to a row, what it does, and when two source rows for
 -- one target row are refused. A row in sight is a target row and then a source row; the side that is missing is NULLs.
-use Rattle.std.specs.Prelude.{ℕ, ◌+◌, Bool, true, false, not, ◌&&◌, nat_le, if◌then◌else◌, List, [], ◌∷◌, ◌++◌, map, filter, length, replicate, Option, Some, None}
-use Rattle.std.specs.List.{list_any, flat_map}
+use Rattle.std.specs.Prelude.{ℕ, ◌+◌, Bool, true, false, not, ◌&&◌, ◌||◌, nat_le, if◌then◌else◌, List, [], ◌∷◌, ◌++◌, length, replicate, Option, Some, None}
+use Rattle.std.specs.List.{list_any, flat_map, count_by}
 use Rattle.row_values.specs.declared.value.Value.{Value}
 use Rattle.row_values.specs.declared.value.Value.TheVariants as value
 use Rattle.sql_predicates.specs.declared.truth.Truth.{Truth}
@@ -95,15 +95,16 @@ abbrev pub is_delete : Action → Bool
 is_delete action.Delete = true
 is_delete _ = false
 
--- a DELETE without a condition may stand alone; with any other clause beside or in its place one source row must be chosen
-abbrev pub wants_one : List Clause → Bool
-wants_one [] = false
-wants_one (c ∷ []) = not (is_delete c.action && is_const_true c.condition)
-wants_one (c ∷ d ∷ clauses) = true
+unfoldable pub is_for_matched : Clause → Bool
+is_for_matched c = is_when c.when Matched
 
--- two source rows for one target row are refused
+-- a MATCHED clause that is not a DELETE without a condition
+unfoldable pub wants_one : Clause → Bool
+wants_one c = is_when c.when Matched && not (is_delete c.action && is_const_true c.condition)
+
+-- two source rows for one target row are refused: a MATCHED clause other than a lone DELETE without a condition stands there
 abbrev pub refuses_two : List Clause → Bool
-refuses_two clauses = wants_one (filter (λ (c : Clause). is_when c.when Matched) clauses)
+refuses_two clauses = list_any wants_one clauses || nat_le 2 (count_by is_for_matched clauses)
 
 unfoldable pub matches_two : Pred → List (List Value) → List Value → Bool
 matches_two on rows target = nat_le 2 (length (matches on rows target))

@@ -1,6 +1,7 @@
 //! Which clause of a MERGE applies to a row, and what it does.
 
 ghost use Rattle.std.specs.Prelude.{◌≡◌, ◌+◌, ◌++◌, IsTrue, IfOk, length};
+ghost use Rattle.std.specs.List.{list_any, count_by};
 ghost use Rattle.sql_predicates.specs.Positions.{pred_is_within};
 ghost use Rattle.sql_statements.specs.Clauses as spec;
 ghost use Rattle.sql_statements.specs.Clauses.{holds_on};
@@ -249,4 +250,58 @@ pub fn insertion(
     }
     let sight = joined(alloc, padding.as_slice(), row.as_slice())?;
     insertion_of_first(alloc, clauses, &sight)
+}
+
+fn is_const_true(pred: &Pred) -> bool
+    ensures { result ≡ spec.is_const_true pred.now }
+{
+    match pred {
+        Pred::Const(holds) => *holds,
+        _ => false,
+    }
+}
+
+#[tactic(auto, unfolding(crate::specs::Clauses::wants_one))]
+fn wants_one(clause: &Clause) -> bool
+    ensures { result ≡ spec.wants_one clause.now }
+{
+    let is_delete = matches!(clause.action, Action::Delete);
+    is_when(clause.when, When::Matched) && !(is_delete && is_const_true(&clause.condition))
+}
+
+#[tactic(auto, unfolding(crate::specs::Clauses::is_for_matched))]
+fn is_for_matched(clause: &Clause) -> bool
+    ensures { result ≡ spec.is_for_matched clause.now }
+{
+    is_when(clause.when, When::Matched)
+}
+
+fn any_wants_one(clauses: &[Clause]) -> bool
+    ensures { result ≡ list_any spec.wants_one clauses.now }
+{
+    for clause in clauses {
+        if wants_one(clause) {
+            return true;
+        }
+    }
+    false
+}
+
+fn count_for_matched(clauses: &[Clause]) -> usize
+    ensures { result ≡ count_by spec.is_for_matched clauses.now }
+{
+    let mut count = 0;
+    for clause in clauses {
+        if is_for_matched(clause) {
+            count += 1;
+        }
+    }
+    count
+}
+
+/// Whether two source rows for one target row are refused.
+pub fn refuses_two(clauses: &[Clause]) -> bool
+    ensures { result ≡ spec.refuses_two clauses.now }
+{
+    any_wants_one(clauses) || 2 <= count_for_matched(clauses)
 }

@@ -1,4 +1,5 @@
 use crate::{List, Value};
+use std::alloc::AllocError;
 
 /// A new row as computed, in which a value that overflowed is absent.
 pub type NewRow = List<Option<Value>>;
@@ -20,4 +21,22 @@ pub enum SqlRefusal {
     Overflow,
     /// NULL in the required column at this position.
     Null(usize),
+}
+
+/// Why a statement gives no rows.
+#[derive(Clone, Copy, Debug, PartialEq, Eq)]
+pub enum PlainFault {
+    Refused(SqlRefusal),
+    Memory,
+}
+
+impl From<AllocError> for PlainFault {
+    ghost use Rattle.std.specs.Prelude.{◌≡◌};
+    ghost use Rattle.sql_statements.specs.declared.effect.PlainFault.TheVariants.{Memory};
+
+    ghost from_gives = { λ _ fault. fault ≡ Memory };
+
+    fn from(_: AllocError) -> Self {
+        PlainFault::Memory
+    }
 }

@@ -9,7 +9,7 @@ mod new_row;
 mod plain;
 mod statement;
 
-pub use effect::{Effect, NewRow, SqlRefusal};
+pub use effect::{Effect, NewRow, PlainFault, SqlRefusal};
 pub use plain_types::{List, Text};
 pub use row_values::{Column, Row, TableSchema, Value};
 pub use sql_predicates::{Expr, Pred};
