@@ -305,3 +305,19 @@ pub fn refuses_two(clauses: &[Clause]) -> bool
 {
     any_wants_one(clauses) || 2 <= count_for_matched(clauses)
 }
+
+/// Whether the target row has two source rows.
+#[tactic(auto, unfolding(crate::specs::Clauses::matches_two))]
+pub fn matches_two(
+    alloc: Global,
+    on: &Pred,
+    rows: &[Row],
+    target: &Row,
+    width: usize,
+) -> Result<bool, AllocError>
+    requires on { IsTrue (pred_is_within (length target.now + width) on.now) }
+    requires wide { IsTrue (are_wide width rows.now) }
+    ensures { IfOk result (λ found. found ≡ spec.matches_two on.now rows.now target.now) }
+{
+    Ok(2 <= matches(alloc, on, rows, target, width)?.len())
+}

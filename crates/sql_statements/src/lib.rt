@@ -4,13 +4,15 @@
 
 mod clauses;
 mod effect;
+mod effects;
 mod faults;
 mod new_row;
-mod plain;
+mod reference;
 mod statement;
 
 pub use effect::{Effect, NewRow, PlainFault, SqlRefusal};
 pub use plain_types::{List, Text};
+pub use reference::plain;
 pub use row_values::{Column, Row, TableSchema, Value};
 pub use sql_predicates::{Expr, Pred};
 pub use statement::{Action, Clause, Merge, Set, Source, Statement, When};

@@ -2,7 +2,7 @@ use Rattle.std.proofs.Common.{◌≡◌, List, ap, ◌∙◌}
 use Rattle.row_values.specs.declared.value.Value.{Value}
 use Rattle.sql_statements.specs.Clauses.{matches}
 use Rattle.sql_statements.proofs.Widths.{wide_sights}
-use Rattle.sql_statements.proofs.plain.merge_effect.Goals as goal
+use Rattle.sql_statements.proofs.effects.merge_effect.Goals as goal
 
 pub effect_by-requires-clause-sights : goal.effect_by-requires-clause-sights
 effect_by-requires-clause-sights c =

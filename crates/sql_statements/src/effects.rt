@@ -1,5 +1,4 @@
-//! The statements by their definitions, on the rows of a branch: slow, and what faster bodies are compared
-//! with.
+//! What a statement does with the rows of its branch, row by row.
 
 ghost use Rattle.std.specs.Prelude.{◌≡◌, ◌≢◌, ◌+◌, ◌&&◌, ◌++◌, Ok, Err, IsTrue, IfOk, IfErr, length, map, [], unwrap_or, slice_get};
 ghost use Rattle.std.specs.List.{list_all, flat_map};
@@ -126,7 +125,7 @@ fn remains(
 }
 
 #[tactic(auto, using(crate::proofs::Steps::flat_map_step))]
-fn all_replacements(
+pub fn all_replacements(
     alloc: Global,
     width: usize,
     sources: &[Source],
@@ -146,7 +145,7 @@ fn all_replacements(
 }
 
 #[tactic(auto, using(crate::proofs::Steps::flat_map_step))]
-fn all_remains(
+pub fn all_remains(
     alloc: Global,
     width: usize,
     sources: &[Source],
@@ -166,7 +165,7 @@ fn all_remains(
 }
 
 /// The rows of the tuples of an INSERT.
-fn tuple_rows(alloc: Global, tuples: &[List<Expr>]) -> Result<List<NewRow>, AllocError>
+pub fn tuple_rows(alloc: Global, tuples: &[List<Expr>]) -> Result<List<NewRow>, AllocError>
     requires { IsTrue (list_all (exprs_are_within 0) tuples.now) }
     ensures { IfOk result (λ made. made ≡ map (new_rows.new_row []) tuples.now) }
 {
