@@ -1,4 +1,7 @@
 pub mod Clauses
 pub mod Effects
+pub mod Filter
 pub mod Fits
 pub mod NewRows
+pub mod Serial
+pub mod Tables
