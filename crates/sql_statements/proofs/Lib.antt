@@ -1,3 +1,4 @@
 pub mod Digits
+pub mod StatementLaws
 pub mod Steps
 pub mod Widths

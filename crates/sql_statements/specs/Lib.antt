@@ -3,5 +3,6 @@ pub mod Effects
 pub mod Filter
 pub mod Fits
 pub mod NewRows
+pub mod Results
 pub mod Serial
 pub mod Tables

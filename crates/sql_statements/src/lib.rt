@@ -6,11 +6,16 @@ mod clauses;
 mod effect;
 mod effects;
 mod faults;
+mod laws;
 mod new_row;
 mod reference;
 mod statement;
 
 pub use effect::{Effect, NewRow, PlainFault, SqlRefusal};
+pub use laws::{
+    delete_is_never_refused, delete_of_all_leaves_nothing, insert_adds_exactly_its_rows,
+    order_of_rows_does_not_matter,
+};
 pub use plain_types::{List, Text};
 pub use reference::plain;
 pub use row_values::{Column, Row, TableSchema, Value};
