@@ -1,4 +1,6 @@
 pub mod Digits
+pub mod FilterLaws
+pub mod FrontLaws
 pub mod StatementLaws
 pub mod Steps
 pub mod Widths

@@ -98,7 +98,7 @@ append_nothing : {X : Type 0} (xs : List X) → xs ++ [] ≡ xs
 append_nothing [] = refl
 append_nothing (x ∷ xs) = ap (λ ys. x ∷ ys) (append_nothing xs)
 
-always_holds : (row : List Value) → holds_on always row ≡ true
+pub always_holds : (row : List Value) → holds_on always row ≡ true
 always_holds row = ap is_true (fold-roll-Pred Truth (truth_level row) (open_pred.Const true))
 
 removed : (sources : List Source) (branch : List ℕ) (row : List Value) → remains sources (statement.Delete branch always) row ≡ []
