@@ -94,7 +94,7 @@ part_or_always : (row : List Value) (part : Option Pred) → PartHolds row part 
 part_or_always row None h = always_holds row
 part_or_always row (Some q) h = h
 
-target_part_holds : (row more : List Value) (p : Pred) → holds_on p (row ++ more) ≡ true → holds_on (target_part (length row) p) row ≡ true
+pub target_part_holds : (row more : List Value) (p : Pred) → holds_on p (row ++ more) ≡ true → holds_on (target_part (length row) p) row ≡ true
 target_part_holds row more p h = part_or_always row _ ((splits row more p).part h)
 
 -- ---- rows that the filter leaves out
@@ -107,7 +107,7 @@ no_match_of : (on : Pred) (row more : List Value) → holds_on (target_part (len
 unfolding match_of
 no_match_of on row more out = no_match on row more (holds_on on (row ++ more)) refl out
 
-no_matches : (on : Pred) (rows : List (List Value)) (row : List Value) → holds_on (target_part (length row) on) row ≡ false → matches on rows row ≡ []
+pub no_matches : (on : Pred) (rows : List (List Value)) (row : List Value) → holds_on (target_part (length row) on) row ≡ false → matches on rows row ≡ []
 no_matches on [] row out = refl
 no_matches on (more ∷ rows) row out = ap (λ ys. ys ++ matches on rows row) (no_match_of on row more out) ∙ no_matches on rows row out
 

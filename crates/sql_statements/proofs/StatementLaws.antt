@@ -27,7 +27,7 @@ use Rattle.sql_statements.specs.Results.{SameResult}
 
 -- ---- one bag, one result
 
-flat_map_same : {X Y : Type 0} (f g : X → List Y) → ((x : X) → f x ≡ g x) → (xs : List X) → flat_map f xs ≡ flat_map g xs
+pub flat_map_same : {X Y : Type 0} (f g : X → List Y) → ((x : X) → f x ≡ g x) → (xs : List X) → flat_map f xs ≡ flat_map g xs
 flat_map_same f g same [] = refl
 flat_map_same f g same (x ∷ xs) = ap (λ ys. ys ++ flat_map f xs) (same x) ∙ ap (λ ys. g x ++ ys) (flat_map_same f g same xs)
 
@@ -39,7 +39,7 @@ unfolding insertion
 insertion_of_bag on clauses xs ys padding row same =
     ap (λ found. cond found [] (inserted_by (padding ++ row) (chosen NotMatched clauses (padding ++ row)))) (SameBag-list_any (is_match on row) xs ys same)
 
-insertions_of_bag : (width : ℕ) (sources : List Source) (s : Statement) (xs ys : List (List Value)) → SameBag xs ys → insertions width sources s xs ≡ insertions width sources s ys
+pub insertions_of_bag : (width : ℕ) (sources : List Source) (s : Statement) (xs ys : List (List Value)) → SameBag xs ys → insertions width sources s xs ≡ insertions width sources s ys
 insertions_of_bag width sources (statement.Merge m) xs ys same =
     flat_map_same _ _ (λ row. insertion_of_bag m.on m.clauses xs ys (nulls width) row same) (source_at sources m.source).rows
 insertions_of_bag width sources (statement.Insert branch rows) xs ys same = refl

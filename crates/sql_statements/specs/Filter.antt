@@ -1,7 +1,8 @@
 -- The rows that a statement depends on are those where its filter is True: its WHERE, and for a MERGE what ON says of the
 -- target's columns alone.
-use Rattle.std.specs.Prelude.{ℕ, Bool, true, false, if◌then◌else◌, List, Option, Some, None, unwrap_or}
+use Rattle.std.specs.Prelude.{ℕ, Bool, true, false, if◌then◌else◌, List, Option, Some, None, unwrap_or, filter}
 use Rattle.std.specs.List.{list_any}
+use Rattle.row_values.specs.declared.value.Value.{Value}
 use Rattle.sql_predicates.specs.declared.pred.Pred.{Pred, fold-Pred, roll-Pred}
 use Rattle.sql_predicates.specs.declared.pred.Pred.TheOpen as open_pred
 use Rattle.sql_predicates.specs.Positions.{pred_is_within}
@@ -10,7 +11,7 @@ use Rattle.sql_statements.specs.declared.statement.Clause.{Clause}
 use Rattle.sql_statements.specs.declared.statement.Merge.{Merge}
 use Rattle.sql_statements.specs.declared.statement.Statement.{Statement}
 use Rattle.sql_statements.specs.declared.statement.Statement.TheVariants as statement
-use Rattle.sql_statements.specs.Clauses.{is_when}
+use Rattle.sql_statements.specs.Clauses.{is_when, holds_on}
 
 abbrev pub always : Pred
 always = roll-Pred (open_pred.Const true)
@@ -58,9 +59,13 @@ merge_filter width m = if list_any is_by_source m.clauses then always else targe
 -- the filter of a statement on a table of this width
 abbrev pub filter_of : ℕ → Statement → Pred
 filter_of width (statement.Insert branch rows) = never
-filter_of width (statement.Delete branch filter) = filter
-filter_of width (statement.Update branch sets filter) = filter
+filter_of width (statement.Delete branch condition) = condition
+filter_of width (statement.Update branch sets condition) = condition
 filter_of width (statement.Merge m) = merge_filter width m
 filter_of width (statement.CreateBranch branch) = never
 filter_of width (statement.DropBranch branch) = never
-filter_of width (statement.Select branch filter) = filter
+filter_of width (statement.Select branch condition) = condition
+
+-- the rows that the statement depends on
+abbrev pub hits : ℕ → Statement → List (List Value) → List (List Value)
+hits width s rows = filter (holds_on (filter_of width s)) rows

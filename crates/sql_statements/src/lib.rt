@@ -14,7 +14,8 @@ mod statement;
 pub use effect::{Effect, NewRow, PlainFault, SqlRefusal};
 pub use laws::{
     delete_is_never_refused, delete_of_all_leaves_nothing, insert_adds_exactly_its_rows,
-    order_of_rows_does_not_matter,
+    order_of_rows_does_not_matter, rows_outside_the_filter_are_kept,
+    statements_depend_on_the_rows_of_their_filter,
 };
 pub use plain_types::{List, Text};
 pub use reference::plain;
