@@ -78,107 +78,76 @@ fn a_comparison_with_null_is_unknown_and_so_is_its_negation(
     Ok(())
 }
 
+/// `2 IN (NULL, n)`.
+fn in_null_and(alloc: Global, row: &Row, n: i32) -> Result<Option<Truth>, AllocError> {
+    let pred = either(
+        alloc,
+        compare(Op::Equal, 0, Value::Null),
+        compare(Op::Equal, 0, Value::Int(n)),
+    )?;
+    Ok(truth(&pred, row))
+}
+
+/// `2 BETWEEN n AND NULL`, and its negation.
+fn between_and_null(alloc: Global, row: &Row, n: i32) -> Result<[Option<Truth>; 2], AllocError> {
+    let pred = both(
+        alloc,
+        compare(Op::GreaterOrEqual, 0, Value::Int(n)),
+        compare(Op::LessOrEqual, 0, Value::Null),
+    )?;
+    let first = truth(&pred, row);
+    Ok([first, truth(&negate(alloc, pred)?, row)])
+}
+
 #[test]
 fn in_and_between_with_null(rt: HostRuntime) -> Result<(), AllocError> {
-    let alloc = rt.alloc();
-    let row = row_of(alloc, &[Value::Int(2), Value::Null])?;
-    let found = either(
-        alloc,
-        compare(Op::Equal, 0, Value::Null),
-        compare(Op::Equal, 0, Value::Int(2)),
-    )?;
-    assert_eq!(rt; truth(&found, &row), Some(Truth::True), "2 IN (NULL, 2)");
-    let missed = either(
-        alloc,
-        compare(Op::Equal, 0, Value::Null),
-        compare(Op::Equal, 0, Value::Int(3)),
-    )?;
-    assert_eq!(rt;
-        truth(&missed, &row),
-        Some(Truth::Unknown),
-        "2 IN (NULL, 3)"
-    );
-    let above = both(
-        alloc,
-        compare(Op::GreaterOrEqual, 0, Value::Int(3)),
-        compare(Op::LessOrEqual, 0, Value::Null),
-    )?;
-    assert_eq!(rt;
-        truth(&above, &row),
-        Some(Truth::False),
-        "2 BETWEEN 3 AND NULL"
-    );
-    let within = both(
-        alloc,
-        compare(Op::GreaterOrEqual, 0, Value::Int(1)),
-        compare(Op::LessOrEqual, 0, Value::Null),
-    )?;
-    assert_eq!(rt;
-        truth(&within, &row),
-        Some(Truth::Unknown),
-        "2 BETWEEN 1 AND NULL"
-    );
-    let negated = negate(alloc, above)?;
-    assert_eq!(rt;
-        truths(alloc, &negated, &row)?,
-        [Some(Truth::True), Some(Truth::True)],
-        "NOT BETWEEN"
-    );
+    let row = row_of(rt.alloc(), &[Value::Int(2), Value::Null])?;
+    assert_eq!(rt; in_null_and(rt.alloc(), &row, 2)?, Some(Truth::True));
+    assert_eq!(rt; in_null_and(rt.alloc(), &row, 3)?, Some(Truth::Unknown));
+    let outside = between_and_null(rt.alloc(), &row, 3)?;
+    assert_eq!(rt; outside, [Some(Truth::False), Some(Truth::True)]);
+    let within = between_and_null(rt.alloc(), &row, 1)?;
+    assert_eq!(rt; within, [Some(Truth::Unknown), Some(Truth::Unknown)]);
     Ok(())
+}
+
+/// `NOT (NOT (b IS NULL OR a < 1) AND a IS NOT NULL)`.
+fn nested(alloc: Global) -> Result<Pred, AllocError> {
+    let inner = either(alloc, Pred::IsNull(1), compare(Op::Less, 0, Value::Int(1)))?;
+    let once = negate(alloc, inner)?;
+    negate(alloc, both(alloc, once, Pred::IsNotNull(0))?)
 }
 
 #[test]
 fn nested_negations_and_null_tests(rt: HostRuntime) -> Result<(), AllocError> {
-    let alloc = rt.alloc();
-    let row = row_of(alloc, &[Value::Int(2), Value::Null])?;
-    let inner = either(alloc, Pred::IsNull(1), compare(Op::Less, 0, Value::Int(1)))?;
-    let once = negate(alloc, inner)?;
+    let row = row_of(rt.alloc(), &[Value::Int(2), Value::Null])?;
+    let pred = nested(rt.alloc())?;
     assert_eq!(rt;
-        truths(alloc, &once, &row)?,
-        [Some(Truth::False), Some(Truth::False)]
-    );
-    let twice = negate(alloc, both(alloc, once, Pred::IsNotNull(0))?)?;
-    assert_eq!(rt;
-        truths(alloc, &twice, &row)?,
+        truths(rt.alloc(), &pred, &row)?,
         [Some(Truth::True), Some(Truth::True)]
     );
-    let normal = normal(
-        alloc,
-        &negate(alloc, compare(Op::Equal, 0, Value::Int(10)))?,
-    )?;
-    let is_not_equal = matches!(
-        normal,
-        Pred::Compare {
-            op: Op::NotEqual,
-            left: Operand::Column(0),
-            right: Operand::Literal(Value::Int(10))
-        }
-    );
-    assert!(rt; is_not_equal, "NOT (n = 10) is n <> 10");
     Ok(())
 }
 
-fn long(n: i64) -> Value {
-    Value::Long(n)
+#[test]
+fn the_negation_of_equal_is_not_equal(rt: HostRuntime) -> Result<(), AllocError> {
+    let pred = negate(rt.alloc(), compare(Op::Equal, 0, Value::Int(10)))?;
+    let normal = normal(rt.alloc(), &pred)?;
+    assert!(rt;
+        matches!(
+            normal,
+            Pred::Compare {
+                op: Op::NotEqual,
+                left: _,
+                right: _
+            }
+        )
+    );
+    Ok(())
 }
 
 fn decimal(unscaled: i128) -> Value {
     Value::Decimal { unscaled, scale: 2 }
-}
-
-fn sum(alloc: Global, right: Value) -> Result<Expr, AllocError> {
-    let left = Boxed::new(alloc, Expr::Column(0))?;
-    Ok(Expr::Add(left, Boxed::new(alloc, Expr::Literal(right))?))
-}
-
-fn difference(alloc: Global, right: Value) -> Result<Expr, AllocError> {
-    let left = Boxed::new(alloc, Expr::Column(0))?;
-    Ok(Expr::Subtract(left, Boxed::new(alloc, Expr::Literal(right))?))
-}
-
-fn product(alloc: Global, right: Value) -> Result<Expr, AllocError> {
-    let left = Boxed::new(alloc, Expr::Column(0))?;
-    Ok(Expr::Multiply(left, Boxed::new(alloc, Expr::Literal(right))?))
 }
 
 /// What the expression gives on the row of one value.
@@ -192,81 +161,43 @@ fn value(alloc: Global, expr: Expr, first: Value) -> Result<Value, ExprFault> {
     }
 }
 
+/// The column and a literal, added, subtracted or multiplied.
+fn step(alloc: Global, sign: char, left: Value, right: Value) -> Result<Value, ExprFault> {
+    let column = Boxed::new(alloc, Expr::Column(0))?;
+    let literal = Boxed::new(alloc, Expr::Literal(right))?;
+    match sign {
+        '+' => value(alloc, Expr::Add(column, literal), left),
+        '-' => value(alloc, Expr::Subtract(column, literal), left),
+        _ => value(alloc, Expr::Multiply(column, literal), left),
+    }
+}
+
+/// Whether the step overflows.
+fn overflows(alloc: Global, sign: char, left: Value, right: Value) -> bool {
+    matches!(step(alloc, sign, left, right), Err(ExprFault::Overflow))
+}
+
+#[test]
+fn sums_and_products_past_the_ends_of_their_kinds(rt: HostRuntime) {
+    let alloc = rt.alloc();
+    assert!(rt; overflows(alloc, '+', Value::Int(i32::MAX), Value::Int(1)));
+    assert!(rt; overflows(alloc, '*', Value::Int(32768), Value::Int(65536)));
+    assert!(rt; overflows(alloc, '-', Value::Long(i64::MAX), Value::Long(-1)));
+    assert!(rt; overflows(alloc, '*', Value::Long(2147483648), Value::Long(4294967296)));
+    assert!(rt; overflows(alloc, '+', decimal(MOST), decimal(1)));
+    assert!(rt; !overflows(alloc, '*', Value::Int(-32768), Value::Int(65536)));
+}
+
 const MOST: i128 = 99_999_999_999_999_999_999_999_999_999_999_999_999;
 
 #[test]
-fn sums_and_products_at_the_ends_of_their_kinds(rt: HostRuntime) -> Result<(), AllocError> {
+fn null_with_anything_is_null_and_an_int_widens(rt: HostRuntime) -> Result<(), AllocError> {
     let alloc = rt.alloc();
-    let overflow = Err(ExprFault::Overflow);
-    assert_eq!(rt;
-        value(alloc, sum(alloc, Value::Int(1))?, Value::Int(1)),
-        Ok(Value::Int(2))
-    );
-    assert_eq!(rt;
-        value(alloc, sum(alloc, Value::Int(1))?, Value::Int(i32::MAX)),
-        overflow
-    );
-    assert_eq!(rt;
-        value(
-            alloc,
-            difference(alloc, Value::Int(1))?,
-            Value::Int(i32::MIN)
-        ),
-        overflow
-    );
-    assert_eq!(rt;
-        value(alloc, product(alloc, Value::Int(65536))?, Value::Int(32768)),
-        overflow
-    );
-    assert_eq!(rt;
-        value(
-            alloc,
-            product(alloc, Value::Int(65536))?,
-            Value::Int(-32768)
-        ),
-        Ok(Value::Int(i32::MIN))
-    );
-    assert_eq!(rt;
-        value(alloc, sum(alloc, long(1))?, long(i64::MAX)),
-        overflow
-    );
-    assert_eq!(rt;
-        value(alloc, difference(alloc, long(-1))?, long(i64::MAX)),
-        overflow
-    );
-    assert_eq!(rt;
-        value(alloc, product(alloc, long(4294967296))?, long(2147483648)),
-        overflow
-    );
-    assert_eq!(rt;
-        value(alloc, product(alloc, long(3))?, long(-7)),
-        Ok(long(-21))
-    );
-    assert_eq!(rt;
-        value(alloc, sum(alloc, decimal(1))?, decimal(MOST)),
-        overflow
-    );
-    assert_eq!(rt;
-        value(alloc, difference(alloc, decimal(1))?, decimal(-MOST)),
-        overflow
-    );
-    assert_eq!(rt;
-        value(alloc, sum(alloc, decimal(MOST))?, decimal(MOST)),
-        overflow
-    );
-    assert_eq!(rt;
-        value(alloc, sum(alloc, decimal(-1))?, decimal(MOST)),
-        Ok(decimal(MOST - 1))
-    );
-    assert_eq!(rt;
-        value(alloc, sum(alloc, Value::Null)?, Value::Int(i32::MAX)),
-        Ok(Value::Null)
-    );
+    let given = step(alloc, '+', Value::Int(i32::MAX), Value::Null);
+    assert_eq!(rt; given, Ok(Value::Null));
     let widened = Boxed::new(alloc, Expr::Widen(Boxed::new(alloc, Expr::Column(0))?))?;
-    let wide = Expr::Add(widened, Boxed::new(alloc, Expr::Literal(long(1)))?);
-    assert_eq!(rt;
-        value(alloc, wide, Value::Int(i32::MAX)),
-        Ok(long(2147483648))
-    );
+    let one = Boxed::new(alloc, Expr::Literal(Value::Long(1)))?;
+    let given = value(alloc, Expr::Add(widened, one), Value::Int(i32::MAX));
+    assert_eq!(rt; given, Ok(Value::Long(2147483648)));
     Ok(())
 }
