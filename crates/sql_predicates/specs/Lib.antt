@@ -1,0 +1,4 @@
+pub mod Exprs
+pub mod NormalForm
+pub mod Positions
+pub mod Truth

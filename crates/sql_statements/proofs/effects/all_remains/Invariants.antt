@@ -1,0 +1,7 @@
+use Rattle.std.proofs.Common.{◌≡◌, take}
+use Rattle.std.specs.List.{flat_map}
+use Rattle.sql_statements.specs.Effects as spec
+use Rattle.sql_statements.proofs.effects.all_remains.Given as goal
+
+abbrev pub invariant-loop-row : goal.invariant-loop-row
+invariant-loop-row l = l.left ≡ flat_map (spec.remains l.sources l.statement) (take l.row-index l.rows)
