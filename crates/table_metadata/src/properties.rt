@@ -4,8 +4,8 @@ ghost use Rattle.serde_json.specs.View.{view};
 ghost use Rattle.table_metadata.specs.Properties.{property_at, is_second, reads_on, is_snapshot_level, retries_of, least_to_merge_of, properties_of};
 
 use crate::MetadataFault;
-use plain_types::digits::whole_number;
 use crate::json::text_at;
+use plain_types::digits::whole_number;
 use row_values::Text;
 use serde_json::Value;
 use std::alloc::Global;
