@@ -11,8 +11,12 @@ pub struct StandardOutput<R> {
     faults: u64,
 }
 
-impl<R> StandardOutput<R> {
-    pub fn new(rt: R) -> StandardOutput<R> {
+impl<R: Print> StandardOutput<R> {
+    ghost use Rattle.std.specs.Prelude.{◌≡◌};
+
+    pub fn new(rt: R) -> StandardOutput<R>
+        ensures { ⟦<StandardOutput<R> as Sink>⟧.faults result ≡ 0 }
+    {
         StandardOutput { rt, faults: 0 }
     }
 }

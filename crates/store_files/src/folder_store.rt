@@ -24,9 +24,15 @@ struct Counts {
     unsettled: u64,
 }
 
-impl<R> FolderStore<R> {
-    /// The store below the working folder.
-    pub fn new(rt: R) -> FolderStore<R> {
+impl<R: Files + AllocGlobal + Clone + Drop> FolderStore<R> {
+    ghost use Rattle.std.specs.Prelude.{◌≡◌};
+
+    /// The store below the working folder, before any call.
+    pub fn new(rt: R) -> FolderStore<R>
+        ensures faults { ⟦<FolderStore<R> as Store>⟧.faults result ≡ 0 }
+        ensures reads { ⟦<FolderStore<R> as Store>⟧.reads result ≡ 0 }
+        ensures unsettled { ⟦<FolderStore<R> as Store>⟧.unsettled result ≡ 0 }
+    {
         FolderStore {
             rt,
             counts: Counts {
