@@ -1,0 +1,5 @@
+use Rattle.std.proofs.Common.{}
+use Rattle.avro_binary.proofs.number.+groups_at.Given as goal
+
+abbrev pub decreases-groups_at : goal.decreases-groups_at
+decreases-groups_at l = l.more

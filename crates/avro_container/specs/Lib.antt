@@ -1,0 +1,5 @@
+pub mod Answer
+pub mod Pairs
+pub mod Header
+pub mod Block
+pub mod Container

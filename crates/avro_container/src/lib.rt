@@ -1,0 +1,20 @@
+//! Avro's object container files: reads the header, and the datums block by block.
+//!
+//! A file is a header and then blocks, and each is one step of a definition over the bytes that are left, so a
+//! reader of one block at a time takes the same steps.
+#![tactic(auto)]
+
+mod block;
+mod container;
+mod fault;
+mod header;
+mod pairs;
+#[cfg(test)]
+mod tests;
+
+pub use block::next_block;
+pub use container::{Container, read_container};
+pub use fault::ContainerFault;
+pub use header::{Header, read_header};
+pub use pairs::MetaPair;
+pub use plain_types::{Bytes as Blob, List, Text as Name};
