@@ -1,1 +1,3 @@
 pub mod Carrier
+pub mod DatumValue
+pub mod Decimals

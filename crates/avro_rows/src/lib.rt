@@ -6,7 +6,9 @@
 #![tactic(auto)]
 
 mod carrier;
+mod decimal;
 mod row_fault;
+mod value;
 
 pub use avro_container::Container;
 pub use row_fault::RowFault;
