@@ -1,1 +1,4 @@
 pub mod Amounts
+pub mod Digits
+pub mod Octets
+pub mod Texts

@@ -7,9 +7,12 @@
 
 mod carrier;
 mod decimal;
+mod reading;
 mod row_fault;
+mod source;
 mod value;
 
 pub use avro_container::Container;
+pub use reading::read_rows;
 pub use row_fault::RowFault;
 pub use row_values::{Column, Kind, List, Row, TableSchema, Value};

@@ -1,4 +1,4 @@
-use Rattle.std.proofs.Common.{◌≡◌, length, ◌≤◌, ◌<◌, ◌-◌, get_or, FitsSigned, to_z, of_z, rules, arith, ◌∙◌}
+use Rattle.std.proofs.Common.{length, ◌<◌, ◌-◌, get_or, FitsSigned, to_z, of_z, rules, arith, ◌∙◌}
 use Rattle.std.specs.Int.{w128}
 use Rattle.std.proofs.lemmas.Int.{to_z-of_z}
 use Rattle.avro_rows.specs.Decimals.{first_digit, digits_from}
