@@ -65,7 +65,7 @@ fn read_row(alloc: Global, sources: &[Source], row: u64, values: &[Datum]) -> Re
     ensures ok { IfOk result (λ vs. row_from row values.now [] sources.now ≡ Ok vs) }
     ensures err { IfErr result (λ f. f ≢ RowFault.Memory → row_from row values.now [] sources.now ≡ Err f) }
 {
-    let mut read = Vec::new(alloc);
+    let mut read = Vec::with_capacity(alloc, sources.len())?;
     let mut rest = sources;
     while let [source, after @ ..] = rest {
         let value = value_at(alloc, source, row, values)?;
@@ -81,7 +81,7 @@ fn read_records(alloc: Global, sources: &[Source], records: &[Datum]) -> Result<
     ensures ok { IfOk result (λ rows. rows_from sources.now [] records.now ≡ Ok rows) }
     ensures err { IfErr result (λ f. f ≢ RowFault.Memory → rows_from sources.now [] records.now ≡ Err f) }
 {
-    let mut rows = Vec::new(alloc);
+    let mut rows = Vec::with_capacity(alloc, records.len())?;
     let mut rest = records;
     while let [record_datum, after @ ..] = rest {
         let row = read_row(alloc, sources, rows.len() as u64, values_of(record_datum))?;
