@@ -1,4 +1,6 @@
 pub mod Amounts
 pub mod Digits
 pub mod Octets
+pub mod RowLaws
+pub mod Stepwise
 pub mod Texts
