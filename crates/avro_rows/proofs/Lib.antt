@@ -1,4 +1,5 @@
 pub mod Amounts
+pub mod ColumnLaws
 pub mod Digits
 pub mod Octets
 pub mod RowLaws
