@@ -1,6 +1,7 @@
 -- A row that is read is a row of the columns.
 use Rattle.std.proofs.Common.{◌≡◌, ℕ, ◌+◌, ◌&&◌, Bool, true, false, not, cond, List, [], ◌∷◌, ◌++◌, length, slice_get, Option, Some, None, option_and_then, Result, Ok, Err, refl, sym, ap, ◌∙◌, append_assoc}
 use Rattle.std.specs.List.{list_all}
+use Rattle.std.specs.Result.{IfOk}
 use Rattle.std.proofs.lemmas.List.{append-nil}
 use Rattle.std.proofs.lemmas.List.Folds.{list_all-append}
 use Rattle.plain_types.specs.Steps.{◌>>=◌, or_fault, by_option}
@@ -155,3 +156,7 @@ rows_of_columns container columns rows h =
     let s = two_steps (sources_from (fields_of container.schema) [] columns) (λ sources. rows_from sources [] container.datums) rows h in
     let found = sources_are (fields_of container.schema) [] columns s.0 s.1 in
     rows_are columns found.0 [] container.datums rows found.2 refl (ap (λ sources. rows_from sources [] container.datums) (sym found.1) ∙ s.2)
+
+pub rows_by : (container : Container) (columns : List Column) (r : Result (List (List Value)) RowFault) → IfOk r (λ rows. rows_of container columns ≡ Ok rows) → IfOk r (λ rows. AreRows columns rows)
+rows_by container columns (Ok rows) h = rows_of_columns container columns rows h
+rows_by container columns (Err e) h = tt

@@ -7,12 +7,16 @@
 
 mod carrier;
 mod decimal;
+mod laws;
 mod reading;
 mod row_fault;
 mod source;
+#[cfg(test)]
+mod tests;
 mod value;
 
 pub use avro_container::Container;
+pub use laws::{columns_are_read_each_for_itself, rows_are_of_their_columns};
 pub use reading::read_rows;
 pub use row_fault::RowFault;
 pub use row_values::{Column, Kind, List, Row, TableSchema, Value};

@@ -1,5 +1,6 @@
 //! The rows of a container.
 ghost use Rattle.std.specs.Prelude.{◌≡◌, ◌≢◌, [], IfOk, IfErr, Ok, Err};
+ghost use Rattle.row_values.specs.Rows.{AreRows};
 ghost use Rattle.avro_rows.specs.Rows.{values_of, null_at, held_at, value_at, row_from, rows_from, rows_of};
 
 use crate::RowFault;
@@ -100,6 +101,7 @@ pub fn read_rows(
     schema: &TableSchema,
 ) -> Result<List<Row>, RowFault>
     ensures ok { IfOk result (λ rows. rows_of container.now schema.now.columns ≡ Ok rows) }
+    ensures rows { IfOk result (λ rows. AreRows schema.now.columns rows) }
     ensures err { IfErr result (λ f. f ≢ RowFault.Memory → rows_of container.now schema.now.columns ≡ Err f) }
 {
     let sources = sources_of(
