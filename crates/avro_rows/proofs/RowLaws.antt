@@ -4,7 +4,7 @@ use Rattle.std.specs.List.{list_all}
 use Rattle.std.specs.Result.{IfOk}
 use Rattle.std.proofs.lemmas.List.{append-nil}
 use Rattle.std.proofs.lemmas.List.Folds.{list_all-append}
-use Rattle.plain_types.specs.Steps.{◌>>=◌, or_fault, by_option}
+use Rattle.plain_types.specs.Steps.{or_fault, by_option}
 use Rattle.row_values.specs.declared.schema.Column.{Column}
 use Rattle.row_values.specs.declared.kind.Kind.{Kind}
 use Rattle.row_values.specs.declared.kind.Kind.TheVariants as kind
@@ -19,7 +19,7 @@ use Rattle.avro_rows.specs.declared.row_fault.RowFault.TheVariants as fault
 use Rattle.avro_rows.specs.declared.source.Source.{Source}
 use Rattle.avro_rows.specs.Carrier.{carries}
 use Rattle.avro_rows.specs.DatumValue.{of_kind, content_of, value_of, inside, is_null_datum}
-use Rattle.avro_rows.specs.Sources.{has_id, carried, absent, source_from, sources_from, fields_of}
+use Rattle.avro_rows.specs.Sources.{has_id, carried, source_from, sources_from, fields_of}
 use Rattle.avro_rows.specs.Rows.{values_of, null_at, held_at, value_at, row_from, rows_from, rows_of}
 use Rattle.avro_rows.proofs.Stepwise.{two_steps, one_value}
 
