@@ -1,0 +1,6 @@
+pub mod Carrier
+pub mod Columns
+pub mod DatumValue
+pub mod Decimals
+pub mod Rows
+pub mod Sources
