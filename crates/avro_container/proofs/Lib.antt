@@ -1,2 +1,7 @@
 pub mod Texts
 pub mod Loops
+pub mod Binds
+pub mod MetaLaws
+pub mod BlockLaws
+pub mod FileLaws
+pub mod Answered

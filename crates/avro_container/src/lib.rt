@@ -13,7 +13,7 @@ mod pairs;
 mod tests;
 
 pub use block::next_block;
-pub use container::{Container, read_container};
+pub use container::{Container, one_container, read_container};
 pub use fault::ContainerFault;
 pub use header::{Header, read_header};
 pub use pairs::MetaPair;
