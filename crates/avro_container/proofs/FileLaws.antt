@@ -21,7 +21,8 @@ use Rattle.avro_container.specs.Answer.{◌>>=◌, as_fault, head_fault}
 use Rattle.avro_container.specs.Pairs.{value_of, map_at, others}
 use Rattle.avro_container.specs.Header.{magic, schema_text, plain_data, schema_in, schema_by, header_from, header_of}
 use Rattle.avro_container.specs.Container.{blocks_at, container_of}
-use Rattle.avro_container.specs.Grammar.{ReadsPair, NewKeys, IsPlain, HasSchema, AreBlocks, ContainerOf}
+use Rattle.avro_container.specs.Grammar.{ReadsPair, Distinct, IsPlain, HasSchema, AreBlocks, ContainerOf}
+use Rattle.avro_container.proofs.KeyLaws.{NewKeys, none_lacks, lacks_none, some_has, has_some, new_distinct, distinct_new, are_others, only_others}
 use Rattle.avro_container.proofs.Binds.{ok, bind_ok, bind_part, same_ok, err_no_ok}
 use Rattle.avro_container.proofs.MetaLaws.{meta_found, meta_only}
 use Rattle.avro_container.proofs.BlockLaws.{all_found, all_only}
@@ -48,18 +49,26 @@ text_found : (found : Option (List ℕ)) (text : List ℕ) → schema_text found
 text_found None text e = absurd (err_no_ok NoSchema text e)
 text_found (Some t) text e = ap (λ (x : List ℕ). Some x) (same_ok t text e)
 
+plain_to : (pairs : List MetaPair) → (value_of (codes "avro.codec") pairs ≡ None) ⊎ (value_of (codes "avro.codec") pairs ≡ Some (codes "null")) → IsPlain pairs
+plain_to pairs (inl none) = inl (none_lacks (codes "avro.codec") pairs none)
+plain_to pairs (inr null) = inr (some_has (codes "avro.codec") (codes "null") pairs null)
+
+plain_back : (pairs : List MetaPair) → Distinct pairs → IsPlain pairs → (value_of (codes "avro.codec") pairs ≡ None) ⊎ (value_of (codes "avro.codec") pairs ≡ Some (codes "null"))
+plain_back pairs d (inl none) = inl (lacks_none (codes "avro.codec") pairs none)
+plain_back pairs d (inr null) = inr (has_some (codes "avro.codec") (codes "null") pairs d null)
+
 schema_found : (pairs : List MetaPair) (schema : schemas.Schema) → schema_by pairs ≡ Ok schema → IsPlain pairs × HasSchema pairs schema
 unfolding schema_by
 schema_found pairs schema e =
     let t = bind_ok (schema_text (value_of (codes "avro.schema") pairs)) (λ text. plain_data (value_of (codes "avro.codec") pairs) (schema_in (schema_from text))) schema e in
     let p = plain_found (value_of (codes "avro.codec") pairs) (schema_in (schema_from t.0)) schema t.2 in
-    (p.0, (t.0, text_found (value_of (codes "avro.schema") pairs) t.0 t.1, read_found (schema_from t.0) schema p.1))
+    (plain_to pairs p.0, (t.0, some_has (codes "avro.schema") t.0 pairs (text_found (value_of (codes "avro.schema") pairs) t.0 t.1), read_found (schema_from t.0) schema p.1))
 
-schema_only : (pairs : List MetaPair) (schema : schemas.Schema) → IsPlain pairs → HasSchema pairs schema → schema_by pairs ≡ Ok schema
+schema_only : (pairs : List MetaPair) (schema : schemas.Schema) → Distinct pairs → IsPlain pairs → HasSchema pairs schema → schema_by pairs ≡ Ok schema
 unfolding schema_by
-schema_only pairs schema plain (text, is, reads) =
-    ap (λ (found : Option (List ℕ)). schema_text found >>= λ text. plain_data (value_of (codes "avro.codec") pairs) (schema_in (schema_from text))) is
-    ∙ plain_only (value_of (codes "avro.codec") pairs) (schema_in (schema_from text)) plain ∙ ap schema_in reads
+schema_only pairs schema d plain (text, is, reads) =
+    ap (λ (found : Option (List ℕ)). schema_text found >>= λ text. plain_data (value_of (codes "avro.codec") pairs) (schema_in (schema_from text))) (has_some (codes "avro.schema") text pairs d is)
+    ∙ plain_only (value_of (codes "avro.codec") pairs) (schema_in (schema_from text)) (plain_back pairs d plain) ∙ ap schema_in reads
 
 -- ---- the header
 
@@ -105,10 +114,10 @@ put_together bytes header pairs synced schema sync blocks x ds starts metadata k
       blocks = blocks;
       starts = starts;
       metadata = subst (λ (t : List ℕ). ReadsAll ReadsPair header pairs t) parts metadata;
-      keys = keys;
+      keys = new_distinct pairs keys;
       plain = plain;
       schema_text = has;
-      others = refl;
+      others = are_others pairs;
       sixteen = sixteen;
       all = is;
     })
@@ -133,10 +142,10 @@ container_found bytes schema meta ds e =
 pub container_only : (bytes : List ℕ) (schema : schemas.Schema) (meta : List MetaPair) (ds : List datums.Datum) → ContainerOf bytes schema meta ds → container_of bytes ≡ Ok (file schema meta ds)
 unfolding container_of
 container_only bytes schema meta ds c =
-    let map_read = meta_only (length bytes) c.header c.pairs (c.sync ++ c.blocks) c.metadata c.keys in
+    let map_read = meta_only (length bytes) c.header c.pairs (c.sync ++ c.blocks) c.metadata (distinct_new c.pairs c.keys) in
     let sync_read = (front_law 16 (c.sync ++ c.blocks)).only c.sync c.blocks (c.sixteen, refl) in
-    let schema_read = schema_only c.pairs schema c.plain c.schema_text in
+    let schema_read = schema_only c.pairs schema c.keys c.plain c.schema_text in
     let header_read = magic_again bytes c.header c.starts ∙ header_again (length bytes) c.header c.pairs (c.sync ++ c.blocks) c.sync c.blocks schema map_read sync_read schema_read in
     let blocks_read = all_only (shape schema) c.sync (length bytes) c.blocks ds c.sixteen c.all in
     ap (λ r. r >>= λ header. blocks_at (shape header.0.schema) header.0.sync (length bytes) (length header.1) 0 [] header.1 >>= λ xs. Ok (file header.0.schema header.0.meta xs)) header_read
-    ∙ ap (λ r. r >>= λ xs. Ok (file schema (others c.pairs) xs)) blocks_read ∙ ap (λ (ms : List MetaPair). ok (file schema ms ds)) (sym c.others)
+    ∙ ap (λ r. r >>= λ xs. Ok (file schema (others c.pairs) xs)) blocks_read ∙ ap (λ (ms : List MetaPair). ok (file schema ms ds)) (sym (only_others c.pairs meta c.others))

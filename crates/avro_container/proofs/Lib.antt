@@ -1,5 +1,6 @@
 pub mod Texts
 pub mod Loops
+pub mod KeyLaws
 pub mod Binds
 pub mod MetaLaws
 pub mod BlockLaws

@@ -14,7 +14,8 @@ use Rattle.avro_container.specs.declared.fault.ContainerFault.TheVariants.{Short
 use Rattle.avro_container.specs.declared.pairs.MetaPair.{MetaPair}
 use Rattle.avro_container.specs.Answer.{◌>>=◌, as_fault, head_fault}
 use Rattle.avro_container.specs.Pairs.{value_of, key_at, pair_at, pairs_at, map_at}
-use Rattle.avro_container.specs.Grammar.{ReadsPair, NewKeys}
+use Rattle.avro_container.specs.Grammar.{ReadsPair}
+use Rattle.avro_container.proofs.KeyLaws.{NewKeys}
 use Rattle.avro_container.proofs.Binds.{ok, bind_ok, bind_part, same_ok, guard_ok, err_no_ok}
 
 -- a pair without a look at the pairs before it

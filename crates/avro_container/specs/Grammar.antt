@@ -1,13 +1,12 @@
 -- The grammar of an object container file (Avro 1.11.1, 'Object Container Files'): which bytes are a file of which
 -- schema, metadata and datums. It is stated on the bytes as a whole, with no place that moves and no bound on the blocks.
-use Rattle.std.specs.Prelude.{◌≡◌, ◌⊎◌, ◌≤◌, ℕ, pos, List, [], ◌∷◌, ◌++◌, length, Some, None, Ok, codes}
+use Rattle.std.specs.Prelude.{◌≡◌, ◌≢◌, ◌⊎◌, ◌≤◌, ℕ, pos, List, [], ◌∷◌, ◌++◌, length, Ok, codes}
 use Rattle.avro_binary.specs.declared.datum.Datum as datums
 use Rattle.avro_binary.specs.declared.schema.Schema as schemas
 use Rattle.avro_binary.specs.Shape as shapes
 use Rattle.avro_binary.specs.Grammar.{Then, As, ReadsLong, ReadsLength, ReadsBytes, ReadsText, ReadsEach, ReadsAll, Reads, joined}
 use Rattle.avro_binary.specs.SchemaText.{schema_from}
 use Rattle.avro_container.specs.declared.pairs.MetaPair.{MetaPair}
-use Rattle.avro_container.specs.Pairs.{value_of, others}
 use Rattle.avro_container.specs.Header.{magic}
 
 -- ---- the metadata
@@ -16,18 +15,37 @@ use Rattle.avro_container.specs.Header.{magic}
 abbrev pub ReadsPair : List ℕ → MetaPair → List ℕ → Type 0
 ReadsPair bytes = Then (ReadsText bytes) (λ key after. As (λ value. record { key = key; value = value }) (ReadsBytes after))
 
--- each of these pairs has a key that no pair before it has
-abbrev pub NewKeys : List MetaPair → List MetaPair → Type 0
-NewKeys before [] = Unit {0}
-NewKeys before (p ∷ ps) = (value_of p.key before ≡ None) × NewKeys (before ++ p ∷ []) ps
+-- no pair has this key
+abbrev pub Lacks : List ℕ → List MetaPair → Type 0
+Lacks key [] = Unit {0}
+Lacks key (p ∷ ps) = (p.key ≢ key) × Lacks key ps
+
+-- a pair has this key and this value
+abbrev pub Has : List ℕ → List ℕ → List MetaPair → Type 0
+Has key value [] = ⊥
+Has key value (p ∷ ps) = ((p.key ≡ key) × (p.value ≡ value)) ⊎ Has key value ps
+
+-- no key stands twice
+abbrev pub Distinct : List MetaPair → Type 0
+Distinct [] = Unit {0}
+Distinct (p ∷ ps) = Lacks p.key ps × Distinct ps
 
 -- no codec, or the codec `null`
 abbrev pub IsPlain : List MetaPair → Type 0
-IsPlain pairs = (value_of (codes "avro.codec") pairs ≡ None) ⊎ (value_of (codes "avro.codec") pairs ≡ Some (codes "null"))
+IsPlain pairs = Lacks (codes "avro.codec") pairs ⊎ Has (codes "avro.codec") (codes "null") pairs
 
--- the schema is in JSON
+-- a schema, in JSON
 abbrev pub HasSchema : List MetaPair → schemas.Schema → Type 0
-HasSchema pairs schema = (text : List ℕ) × (value_of (codes "avro.schema") pairs ≡ Some text) × (schema_from text ≡ Ok schema)
+HasSchema pairs schema = (text : List ℕ) × Has (codes "avro.schema") text pairs × (schema_from text ≡ Ok schema)
+
+-- a pair that the container itself has
+abbrev pub IsOwn : MetaPair → Type 0
+IsOwn p = (p.key ≡ codes "avro.schema") ⊎ (p.key ≡ codes "avro.codec")
+
+-- the pairs but for those, in order
+abbrev pub AreOthers : List MetaPair → List MetaPair → Type 0
+AreOthers [] meta = meta ≡ []
+AreOthers (p ∷ ps) meta = (IsOwn p × AreOthers ps meta) ⊎ ((IsOwn p → ⊥) × ((more : List MetaPair) × (meta ≡ p ∷ more) × AreOthers ps more))
 
 -- ---- the blocks
 
@@ -54,9 +72,9 @@ pub record ContainerOf (bytes : List ℕ) (schema : schemas.Schema) (meta : List
   pub blocks : List ℕ
   pub starts : bytes ≡ magic ++ header
   pub metadata : ReadsAll ReadsPair header pairs (sync ++ blocks)
-  pub keys : NewKeys [] pairs
+  pub keys : Distinct pairs
   pub plain : IsPlain pairs
   pub schema_text : HasSchema pairs schema
-  pub others : meta ≡ others pairs
+  pub others : AreOthers pairs meta
   pub sixteen : length sync ≡ 16
   pub all : AreBlocks (shapes.shape schema) sync blocks ds
