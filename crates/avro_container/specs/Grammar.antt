@@ -49,7 +49,8 @@ AreOthers (p ∷ ps) meta = (IsOwn p × AreOthers ps meta) ⊎ ((IsOwn p → ⊥
 
 -- ---- the blocks
 
--- how many datums, how many bytes, that many bytes, which are so many datums one after another, and the sync bytes
+-- How many datums, how many bytes, that many bytes, which are so many datums one after another, and the sync bytes.
+-- No more datums than bytes, though Avro allows it where they take none, as those of the schema `null`.
 pub record ReadsBlock (shape : shapes.Shape) (sync bytes : List ℕ) (ds : List datums.Datum) (rest : List ℕ) : Type 0 where
   pub sized : List ℕ
   pub stored : List ℕ
