@@ -3,3 +3,4 @@ pub mod Pairs
 pub mod Header
 pub mod Block
 pub mod Container
+pub mod Grammar

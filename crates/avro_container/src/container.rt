@@ -1,7 +1,10 @@
-ghost use Rattle.std.specs.Prelude.{◌≡◌, [], length};
+ghost use Rattle.std.specs.Prelude.{◌≡◌, ◌↔◌, List as Seq, ℕ, [], length, Ok, IfOk, MatchResult};
+ghost use Rattle.avro_binary.specs.declared.datum.Datum.{Datum as Tree};
+ghost use Rattle.avro_binary.specs.declared.schema.Schema.{Schema as Types};
 ghost use Rattle.avro_binary.specs.Shape.{shape};
 ghost use Rattle.avro_container.specs.Answer.{Finds};
 ghost use Rattle.avro_container.specs.Container.{blocks_at, container_of};
+ghost use Rattle.avro_container.specs.Grammar.{ContainerOf};
 
 use crate::block::next_block;
 use crate::fault::ContainerFault;
@@ -46,11 +49,9 @@ fn blocks_at(
     }
 }
 
-/// The container that the bytes are. Faults come in the order of `ContainerFault`, the header's first and then
-/// block by block; in a block one of its count, size or data comes before one of its datums.
 #[tactic(auto, unfolding(crate::specs::Container::container_of))]
-pub fn read_container(alloc: Global, bytes: &[u8]) -> Result<Container, ContainerFault>
-    ensures exact { Finds (λ x. x) result (container_of bytes.now) }
+fn container_of(alloc: Global, bytes: &[u8]) -> Result<Container, ContainerFault>
+    ensures { Finds (λ x. x) result (container_of bytes.now) }
 {
     let (header, rest) = read_header(alloc, bytes)?;
     let Header { schema, meta, sync } = header;
@@ -61,3 +62,23 @@ pub fn read_container(alloc: Global, bytes: &[u8]) -> Result<Container, Containe
         datums: List::from_vec(datums),
     })
 }
+
+/// The container that the bytes are. Faults come in the order of `ContainerFault`, the header's first and then
+/// block by block; in a block one of its count, size or data comes before one of its datums.
+pub fn read_container(alloc: Global, bytes: &[u8]) -> Result<Container, ContainerFault>
+    // What is found is in the grammar.
+    ensures found { IfOk result (λ c. ContainerOf bytes.now c.schema c.meta c.datums) }
+    // What is in the grammar is found, unless memory runs out.
+    ensures only { (schema : Types) (meta : Seq MetaPair) (datums : Seq Tree) → ContainerOf bytes.now schema meta datums →
+        MatchResult result (λ c. (c.schema ≡ schema) × (c.meta ≡ meta) × (c.datums ≡ datums)) (λ f. f ≡ ContainerFault.Memory) }
+    // Which answer it is, as a function computes it.
+    ensures exact { Finds (λ x. x) result (container_of bytes.now) }
+{
+    container_of(alloc, bytes)
+}
+
+/// The grammar and the reading function agree: bytes are at most one container.
+pub fn one_container()
+    ensures { (bytes : Seq ℕ) (schema : Types) (meta : Seq MetaPair) (datums : Seq Tree) →
+        ContainerOf bytes schema meta datums ↔ (container_of bytes ≡ Ok (record { schema = schema; meta = meta; datums = datums })) }
+{}

@@ -1,7 +1,7 @@
 //! Avro's object container files: reads the header, and the datums block by block.
 //!
-//! A file is a header and then blocks, and each is one step of a definition over the bytes that are left, so a
-//! reader of one block at a time takes the same steps.
+//! What is read is exactly what the grammar of files has. A file is a header and then blocks, and each is one
+//! step of a definition over the bytes that are left, so a reader of one block at a time takes the same steps.
 #![tactic(auto)]
 
 mod block;
@@ -13,7 +13,7 @@ mod pairs;
 mod tests;
 
 pub use block::next_block;
-pub use container::{Container, read_container};
+pub use container::{Container, one_container, read_container};
 pub use fault::ContainerFault;
 pub use header::{Header, read_header};
 pub use pairs::MetaPair;

@@ -26,6 +26,15 @@ fn outcome(alloc: Global, bytes: &[u8]) -> (u8, usize) {
     }
 }
 
+/// So many of the bytes, or all of them.
+fn front(bytes: &[u8], length: usize) -> &[u8] {
+    if length < bytes.len() {
+        &bytes[..length]
+    } else {
+        bytes
+    }
+}
+
 #[test]
 fn every_front_of_a_file_has_its_fault(rt: HostRuntime) {
     for length in 0..61usize {
@@ -45,13 +54,10 @@ fn every_front_of_a_file_has_its_fault(rt: HostRuntime) {
         } else {
             (0, 1)
         };
-        let front: &[u8] = &FILE;
-        let front = if length < front.len() {
-            &front[..length]
-        } else {
-            front
-        };
-        assert!(rt; outcome(rt.alloc(), front) == want, "{length}");
+        assert!(rt;
+            outcome(rt.alloc(), front(&FILE, length)) == want,
+            "{length}"
+        );
     }
 }
 
@@ -108,4 +114,44 @@ fn keys_and_codecs_have_their_faults(rt: HostRuntime) {
     for (file, want) in cases {
         assert!(rt; outcome(rt.alloc(), file) == want, "{want:?}");
     }
+}
+
+#[test]
+fn other_blocks_have_their_outcomes(rt: HostRuntime) -> Result<(), AllocError> {
+    // So much of the file, then these bytes, and then so many of the sync bytes.
+    let cases: [(usize, &[u8], usize, (u8, usize)); 12] = [
+        // A count below 0, with data that ends early and with data that doesn't.
+        (41, b"\x01\x04\x00", 0, (2, 44)),
+        (41, b"\x01\x02\x00", 16, (7, 0)),
+        // A second block.
+        (60, b"\x02\x02\x00", 16, (0, 2)),
+        (60, b"\x00\x00", 16, (0, 1)),
+        (60, b"\x02\x02\x80", 16, (8, 1)),
+        (60, b"\x04\x02\x00", 16, (7, 1)),
+        (60, b"\x02\x04\x00\x00", 16, (7, 1)),
+        (60, b"\x02\x02\x00", 15, (9, 1)),
+        (60, b"\x02\x04\x00", 0, (2, 63)),
+        // The count in two bytes, in ten, and in one too many.
+        (41, b"\x82\x00\x02\x00", 16, (0, 1)),
+        (
+            41,
+            b"\x82\x80\x80\x80\x80\x80\x80\x80\x80\x00\x02\x00",
+            16,
+            (0, 1),
+        ),
+        (
+            41,
+            b"\x82\x80\x80\x80\x80\x80\x80\x80\x80\x80\x00\x02\x00",
+            16,
+            (7, 0),
+        ),
+    ];
+    let whole: &[u8] = &FILE;
+    for (length, block, synced, want) in cases {
+        let mut file = Vec::from_slice(rt.alloc(), front(whole, length))?;
+        file.extend_from_slice(block)?;
+        file.extend_from_slice(front(&whole[25..41], synced))?;
+        assert!(rt; outcome(rt.alloc(), file.as_slice()) == want, "{block:?}");
+    }
+    Ok(())
 }
