@@ -1,5 +1,5 @@
 -- A row that is read is a row of the columns.
-use Rattle.std.proofs.Common.{◌≡◌, ℕ, ◌+◌, ◌&&◌, Bool, true, false, not, cond, List, [], ◌∷◌, ◌++◌, length, slice_get, Option, Some, None, option_and_then, Result, Ok, Err, refl, sym, ap, ◌∙◌, append_assoc}
+use Rattle.std.proofs.Common.{◌≡◌, ℕ, ◌+◌, ◌&&◌, Bool, true, false, not, cond, List, [], ◌∷◌, ◌++◌, length, slice_get, Option, Some, None, option_and_then, Result, Ok, Err, refl, sym, ap, ◌∙◌, append_assoc, length-append, arith}
 use Rattle.std.specs.List.{list_all}
 use Rattle.std.specs.Result.{IfOk}
 use Rattle.std.proofs.lemmas.List.{append-nil}
@@ -160,3 +160,22 @@ rows_of_columns container columns rows h =
 pub rows_by : (container : Container) (columns : List Column) (r : Result (List (List Value)) RowFault) → IfOk r (λ rows. rows_of container columns ≡ Ok rows) → IfOk r (λ rows. AreRows columns rows)
 rows_by container columns (Ok rows) h = rows_of_columns container columns rows h
 rows_by container columns (Err e) h = tt
+
+-- ---- a row for each datum
+
+counted : (sources : List Source) (earlier : List (List Value)) (datums : List Datum) (rows : List (List Value)) → rows_from sources earlier datums ≡ Ok rows → length rows ≡ length earlier + length datums
+unfolding rows_from
+counted sources earlier [] rows h =
+    let same : length rows ≡ length earlier = ap length (one_value rows earlier (Ok earlier) h refl) in
+    omega arith
+counted sources earlier (datum ∷ datums) rows h =
+    let s = two_steps (row_from (length earlier) (values_of datum) [] sources) (λ row. rows_from sources (earlier ++ row ∷ []) datums) rows h in
+    let rest : length rows ≡ length (earlier ++ s.0 ∷ []) + length datums = counted sources (earlier ++ s.0 ∷ []) datums rows s.2 in
+    omega (arith, length-append earlier (s.0 ∷ []))
+
+pub rows_of_count : (container : Container) (columns : List Column) (rows : List (List Value)) → rows_of container columns ≡ Ok rows → length rows ≡ length container.datums
+unfolding rows_of
+rows_of_count container columns rows h =
+    let s = two_steps (sources_from (fields_of container.schema) [] columns) (λ sources. rows_from sources [] container.datums) rows h in
+    let count : length rows ≡ 0 + length container.datums = counted s.0 [] container.datums rows s.2 in
+    omega arith

@@ -1,5 +1,5 @@
 //! Laws of what is read. Each function says its law in its clauses, and does nothing.
-ghost use Rattle.std.specs.Prelude.{◌≡◌, [], ◌∷◌, List, Ok};
+ghost use Rattle.std.specs.Prelude.{◌≡◌, [], ◌∷◌, List, Ok, length};
 ghost use Rattle.std.specs.List.{list_all};
 ghost use Rattle.std.specs.Result.{is_ok};
 ghost use Rattle.row_values.specs.declared.schema.Column.{Column};
@@ -16,7 +16,8 @@ pub fn columns_are_read_each_for_itself()
     ensures values { (container : Container) (column : Column) (columns : List Column) → read_of (rows_of container (column ∷ columns)) ≡ both_read (read_of (rows_of container (column ∷ []))) (read_of (rows_of container columns)) }
 {}
 
-/// Rows that are read are rows of the columns, whatever the container holds.
+/// Rows that are read are rows of the columns, whatever the container holds, and each datum gives one.
 pub fn rows_are_of_their_columns()
-    ensures { (container : Container) (columns : List Column) (rows : List (List Value)) → rows_of container columns ≡ Ok rows → AreRows columns rows }
+    ensures kinds { (container : Container) (columns : List Column) (rows : List (List Value)) → rows_of container columns ≡ Ok rows → AreRows columns rows }
+    ensures count { (container : Container) (columns : List Column) (rows : List (List Value)) → rows_of container columns ≡ Ok rows → length rows ≡ length container.datums }
 {}
