@@ -1,6 +1,5 @@
 pub mod Digits
 pub mod FilterLaws
-pub mod FrontLaws
 pub mod LocalLaws
 pub mod StatementLaws
 pub mod Steps

@@ -6,12 +6,15 @@ mod clauses;
 mod effect;
 mod effects;
 mod faults;
+mod filter;
 mod laws;
 mod new_row;
 mod reference;
 mod statement;
+mod tables;
 
 pub use effect::{Effect, NewRow, PlainFault, SqlRefusal};
+pub use filter::filter_of;
 pub use laws::{
     delete_is_never_refused, delete_of_all_leaves_nothing, insert_adds_exactly_its_rows,
     order_of_rows_does_not_matter, rows_outside_the_filter_are_kept,
