@@ -2,14 +2,14 @@
 use Rattle.std.proofs.Common.{◌≡◌, ℕ, Bool, true, false, ◌&&◌, ◌||◌, cond, List, [], ◌∷◌, ◌++◌, length, Option, Some, None, refl, sym, ap, subst, ◌∙◌}
 use Rattle.std.proofs.lemmas.Bool.{false≢true}
 use Rattle.std.specs.Prelude.{unwrap_or}
-use Rattle.std.specs.List.{list_any, flat_map}
+use Rattle.std.specs.List.{list_any}
 use Rattle.row_values.specs.declared.value.Value.{Value}
-use Rattle.sql_predicates.specs.declared.pred.Pred.{Pred, fold-Pred, roll-Pred}
+use Rattle.sql_predicates.specs.declared.pred.Pred.{Pred, roll-Pred}
 use Rattle.sql_predicates.specs.declared.pred.Pred.TheFolds.{fold-roll-Pred, map-Pred}
 use Rattle.sql_predicates.specs.declared.pred.Pred.TheOpen as open_pred
 use Rattle.sql_predicates.specs.declared.truth.Truth.{Truth}
 use Rattle.sql_predicates.specs.declared.truth.Truth.TheVariants.{True, False, Unknown}
-use Rattle.sql_predicates.specs.Truth.{truth, truth_level, and_truth}
+use Rattle.sql_predicates.specs.Truth.{truth, and_truth}
 use Rattle.sql_predicates.specs.Positions.{pred_is_within}
 use Rattle.sql_predicates.proofs.FrontLaws.{Proved, by_levels, both, truth_roll, truth_in_front}
 use Rattle.sql_statements.specs.declared.statement.Statement.{Statement}
@@ -18,12 +18,11 @@ use Rattle.sql_statements.specs.declared.statement.When.TheVariants.{NotMatchedB
 use Rattle.sql_statements.specs.declared.statement.Clause.{Clause}
 use Rattle.sql_statements.specs.declared.statement.Merge.{Merge}
 use Rattle.sql_statements.specs.declared.statement.Source.{Source}
-use Rattle.sql_statements.specs.declared.effect.Effect.{Effect}
 use Rattle.sql_statements.specs.declared.effect.Effect.TheVariants.{Keep, Remove, Replace}
 use Rattle.sql_statements.specs.NewRows.{updated}
-use Rattle.sql_statements.specs.Clauses.{is_true, holds_on, nulls, match_of, matches, is_when, applies, chosen, acted, effect_by}
+use Rattle.sql_statements.specs.Clauses.{is_true, holds_on, nulls, match_of, matches, applies, chosen, acted, effect_by}
 use Rattle.sql_statements.specs.Effects.{source_at, merge_effect, effect}
-use Rattle.sql_statements.specs.Filter.{always, Split, conjoined, leaf, split_level, split_of, target_part, is_by_source, merge_filter, filter_of}
+use Rattle.sql_statements.specs.Filter.{always, Split, conjoined, leaf, split_level, split_of, target_part, is_by_source, filter_of}
 use Rattle.sql_statements.proofs.StatementLaws.{always_holds}
 
 -- ---- where a predicate is True of joined rows, its part on the first columns is True of the first row

@@ -1,6 +1,7 @@
 pub mod Digits
 pub mod FilterLaws
 pub mod LocalLaws
+pub mod RunLaws
 pub mod StatementLaws
 pub mod Steps
 pub mod Widths
