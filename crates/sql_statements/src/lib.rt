@@ -7,15 +7,19 @@ mod effect;
 mod effects;
 mod faults;
 mod filter;
+mod fits;
 mod laws;
 mod new_row;
 mod reference;
 mod runs;
 mod statement;
 mod tables;
+#[cfg(test)]
+mod tests;
 
 pub use effect::{Effect, NewRow, PlainFault, SqlRefusal};
 pub use filter::filter_of;
+pub use fits::{are_wide, sources_are_wide};
 pub use laws::{
     a_statement_acts_on_the_rows_of_its_filter, delete_is_never_refused,
     delete_of_all_leaves_nothing, insert_adds_exactly_its_rows, order_of_rows_does_not_matter,
