@@ -1,9 +1,9 @@
 use crate::{
     Action, Clause, Column, Expr, List, Merge, PlainFault, Pred, Row, Set, Source, SqlRefusal,
-    Statement, TableSchema, Text, Value, When, are_wide, filter_of, plain, sources_are_wide,
+    Statement, TableSchema, Text, Value, When, are_wide, plain, sources_are_wide,
 };
 use row_values::Kind;
-use sql_predicates::{Boxed, Op, Operand};
+use sql_predicates::{Op, Operand};
 use std::alloc::{AllocError, Global};
 
 /// A row of two numbers, of which a missing one is NULL.
@@ -106,11 +106,17 @@ fn leaves(
     table: &[Pair],
     source: &[Pair],
     wanted: &[Pair],
-) -> Result<bool, AllocError> {
-    let wanted = rows(alloc, wanted)?;
+) -> bool {
     match run(alloc, statement, table, source) {
-        Ok(left) => Ok(left == wanted),
-        Err(_) => Ok(false),
+        Ok(left) => are_pairs(alloc, &left, wanted),
+        Err(_) => false,
+    }
+}
+
+fn are_pairs(alloc: Global, left: &List<Row>, wanted: &[Pair]) -> bool {
+    match rows(alloc, wanted) {
+        Ok(wanted) => *left == wanted,
+        Err(_) => false,
     }
 }
 
@@ -137,15 +143,18 @@ fn is_number(op: Op, at: usize, number: i32) -> Pred {
 
 const TABLE: [Pair; 2] = [[Some(1), Some(10)], [Some(2), Some(20)]];
 
+fn delete(alloc: Global, filter: Pred) -> Result<Statement, AllocError> {
+    Ok(Statement::Delete {
+        branch: Text::copy_of(alloc, "main")?,
+        filter,
+    })
+}
+
 #[test]
 fn a_row_of_which_the_filter_is_unknown_is_not_deleted(rt: HostRuntime) -> Result<(), AllocError> {
-    let statement = Statement::Delete {
-        branch: Text::copy_of(rt.alloc(), "main")?,
-        filter: is_number(Op::NotEqual, 1, 10),
-    };
-    let table = [[Some(1), None], [Some(2), Some(20)], [Some(3), Some(10)]];
-    let wanted = [[Some(1), None], [Some(3), Some(10)]];
-    assert!(rt; leaves(rt.alloc(), &statement, &table, &[], &wanted)?);
+    let statement = delete(rt.alloc(), is_number(Op::NotEqual, 1, 10))?;
+    let table = [[Some(1), None], [Some(2), Some(20)]];
+    assert!(rt; leaves(rt.alloc(), &statement, &table, &[], &[[Some(1), None]]));
     Ok(())
 }
 
@@ -161,32 +170,44 @@ fn set(column: usize, expr: Expr) -> Set {
     Set { column, expr }
 }
 
+fn swap(alloc: Global) -> Result<Statement, AllocError> {
+    update(
+        alloc,
+        two(alloc, set(0, Expr::Column(1)), set(1, Expr::Column(0)))?,
+    )
+}
+
 #[test]
 fn an_update_swaps_two_columns(rt: HostRuntime) -> Result<(), AllocError> {
-    let alloc = rt.alloc();
-    let sets = two(alloc, set(0, Expr::Column(1)), set(1, Expr::Column(0)))?;
-    let statement = update(alloc, sets)?;
+    let statement = swap(rt.alloc())?;
     let wanted = [[Some(10), Some(1)], [Some(20), Some(2)]];
-    assert!(rt; leaves(alloc, &statement, &TABLE, &[], &wanted)?);
+    assert!(rt; leaves(rt.alloc(), &statement, &TABLE, &[], &wanted));
     Ok(())
+}
+
+fn update_to_null(alloc: Global) -> Result<Statement, AllocError> {
+    update(alloc, one(alloc, set(0, Expr::Literal(Value::Null)))?)
 }
 
 #[test]
 fn null_in_a_required_column_is_refused(rt: HostRuntime) -> Result<(), AllocError> {
-    let alloc = rt.alloc();
-    let statement = update(alloc, one(alloc, set(0, Expr::Literal(Value::Null)))?)?;
-    assert!(rt; is_refused(alloc, &statement, &TABLE, &[], SqlRefusal::Null(0)));
-    let tuple = two(
-        alloc,
-        Expr::Literal(Value::Null),
-        Expr::Literal(Value::Int(1)),
-    )?;
-    let statement = Statement::Insert {
-        branch: Text::copy_of(alloc, "main")?,
-        rows: one(alloc, tuple)?,
-    };
-    assert!(rt; is_refused(alloc, &statement, &TABLE, &[], SqlRefusal::Null(0)));
+    let statement = update_to_null(rt.alloc())?;
+    assert!(rt; is_refused(rt.alloc(), &statement, &TABLE, &[], SqlRefusal::Null(0)));
     Ok(())
+}
+
+/// ON key = source.key.
+fn merge(alloc: Global, clauses: List<Clause>) -> Result<Statement, AllocError> {
+    Ok(Statement::Merge(Merge {
+        branch: Text::copy_of(alloc, "main")?,
+        source: 0,
+        on: Pred::Compare {
+            op: Op::Equal,
+            left: Operand::Column(0),
+            right: Operand::Column(2),
+        },
+        clauses,
+    }))
 }
 
 fn clause(when: When, condition: Pred, action: Action) -> Clause {
@@ -209,123 +230,108 @@ fn insert_row(alloc: Global) -> Result<Clause, AllocError> {
     Ok(clause(When::NotMatched, Pred::Const(true), Action::Insert(row)))
 }
 
-/// ON key = source.key.
-fn merge(alloc: Global, clauses: List<Clause>) -> Result<Statement, AllocError> {
-    Ok(Statement::Merge(Merge {
-        branch: Text::copy_of(alloc, "main")?,
-        source: 0,
-        on: Pred::Compare {
-            op: Op::Equal,
-            left: Operand::Column(0),
-            right: Operand::Column(2),
-        },
-        clauses,
-    }))
+fn upsert(alloc: Global) -> Result<Statement, AllocError> {
+    let update = update_n(alloc)?;
+    merge(alloc, two(alloc, update, insert_row(alloc)?)?)
 }
+
+const NO_MATCH: [Pair; 1] = [[Some(3), Some(30)]];
+
+const ONE_MATCH: [Pair; 1] = [[Some(2), Some(5)]];
+
+const TWO_MATCHES: [Pair; 2] = [[Some(2), Some(5)], [Some(2), Some(6)]];
+
+const NULL_KEY: [Pair; 1] = [[None, Some(5)]];
 
 #[test]
 fn a_merge_with_no_one_and_two_matches(rt: HostRuntime) -> Result<(), AllocError> {
-    let alloc = rt.alloc();
-    let statement = merge(alloc, two(alloc, update_n(alloc)?, insert_row(alloc)?)?)?;
-    let none = [[Some(3), Some(30)]];
-    let wanted = [TABLE[0], TABLE[1], none[0]];
-    assert!(rt; leaves(alloc, &statement, &TABLE, &none, &wanted)?);
-    let one = [[Some(2), Some(5)]];
-    assert!(rt; leaves(alloc, &statement, &TABLE, &one, &[TABLE[0], one[0]])?);
-    let two = [[Some(2), Some(5)], [Some(2), Some(5)]];
-    assert!(rt; is_refused(alloc, &statement, &TABLE, &two, SqlRefusal::Cardinality));
+    let statement = upsert(rt.alloc())?;
+    let inserted = [TABLE[0], TABLE[1], NO_MATCH[0]];
+    assert!(rt; leaves(rt.alloc(), &statement, &TABLE, &NO_MATCH, &inserted));
+    let updated = [TABLE[0], ONE_MATCH[0]];
+    assert!(rt; leaves(rt.alloc(), &statement, &TABLE, &ONE_MATCH, &updated));
+    assert!(rt;
+        is_refused(
+            rt.alloc(),
+            &statement,
+            &TABLE,
+            &TWO_MATCHES,
+            SqlRefusal::Cardinality
+        )
+    );
     Ok(())
 }
 
+/// The source row is for the NOT MATCHED clause, which inserts its NULL.
 #[test]
 fn a_null_key_in_the_source_matches_nothing(rt: HostRuntime) -> Result<(), AllocError> {
-    let alloc = rt.alloc();
-    let null = [[None, Some(5)]];
-    let updates = merge(alloc, one(alloc, update_n(alloc)?)?)?;
-    assert!(rt; leaves(alloc, &updates, &TABLE, &null, &TABLE)?);
-    let inserts = merge(alloc, one(alloc, insert_row(alloc)?)?)?;
-    assert!(rt; is_refused(alloc, &inserts, &TABLE, &null, SqlRefusal::Null(0)));
+    let statement = upsert(rt.alloc())?;
+    assert!(rt;
+        is_refused(
+            rt.alloc(),
+            &statement,
+            &TABLE,
+            &NULL_KEY,
+            SqlRefusal::Null(0)
+        )
+    );
     Ok(())
+}
+
+fn delete_or_update(alloc: Global) -> Result<Statement, AllocError> {
+    let delete = clause(When::Matched, is_number(Op::Equal, 3, 5), Action::Delete);
+    merge(alloc, two(alloc, delete, update_n(alloc)?)?)
 }
 
 #[test]
 fn the_first_clause_that_applies_decides(rt: HostRuntime) -> Result<(), AllocError> {
-    let alloc = rt.alloc();
-    let delete = clause(When::Matched, is_number(Op::Equal, 3, 5), Action::Delete);
-    let statement = merge(alloc, two(alloc, delete, update_n(alloc)?)?)?;
+    let statement = delete_or_update(rt.alloc())?;
+    assert!(rt; leaves(rt.alloc(), &statement, &TABLE, &ONE_MATCH, &[TABLE[0]]));
+    let other = [[Some(2), Some(6)]];
     assert!(rt;
         leaves(
-            alloc,
+            rt.alloc(),
             &statement,
             &TABLE,
-            &[[Some(2), Some(5)]],
-            &[TABLE[0]]
-        )?
+            &other,
+            &[TABLE[0], other[0]]
+        )
     );
-    let other = [[Some(2), Some(6)]];
-    assert!(rt; leaves(alloc, &statement, &TABLE, &other, &[TABLE[0], other[0]])?);
     Ok(())
+}
+
+fn merge_delete(alloc: Global, when: When, condition: bool) -> Result<Statement, AllocError> {
+    merge(
+        alloc,
+        one(alloc, clause(when, Pred::Const(condition), Action::Delete))?,
+    )
 }
 
 #[test]
 fn target_rows_without_a_source_row(rt: HostRuntime) -> Result<(), AllocError> {
-    let alloc = rt.alloc();
-    let delete = clause(
-        When::NotMatchedBySource,
-        is_number(Op::Equal, 1, 10),
-        Action::Delete,
+    let statement = merge_delete(rt.alloc(), When::NotMatchedBySource, true)?;
+    assert!(rt; leaves(rt.alloc(), &statement, &TABLE, &ONE_MATCH, &[TABLE[1]]));
+    Ok(())
+}
+
+#[test]
+fn a_lone_delete_with_two_matches(rt: HostRuntime) -> Result<(), AllocError> {
+    let statement = merge_delete(rt.alloc(), When::Matched, true)?;
+    assert!(rt; leaves(rt.alloc(), &statement, &TABLE, &TWO_MATCHES, &[TABLE[0]]));
+    Ok(())
+}
+
+#[test]
+fn two_matches_are_refused_where_the_condition_is_false(rt: HostRuntime) -> Result<(), AllocError> {
+    let statement = merge_delete(rt.alloc(), When::Matched, false)?;
+    assert!(rt;
+        is_refused(
+            rt.alloc(),
+            &statement,
+            &TABLE,
+            &TWO_MATCHES,
+            SqlRefusal::Cardinality
+        )
     );
-    let statement = merge(alloc, one(alloc, delete)?)?;
-    assert!(rt; leaves(alloc, &statement, &TABLE, &[], &[TABLE[1]])?);
-    assert!(rt; leaves(alloc, &statement, &TABLE, &[[Some(1), Some(0)]], &TABLE)?);
-    Ok(())
-}
-
-#[test]
-fn two_source_rows_for_one_target_row(rt: HostRuntime) -> Result<(), AllocError> {
-    let alloc = rt.alloc();
-    let twice = [[Some(2), Some(5)], [Some(2), Some(6)]];
-    let lone = clause(When::Matched, Pred::Const(true), Action::Delete);
-    let statement = merge(alloc, one(alloc, lone)?)?;
-    assert!(rt; leaves(alloc, &statement, &TABLE, &twice, &[TABLE[0]])?);
-    let never = clause(When::Matched, Pred::Const(false), Action::Delete);
-    let statement = merge(alloc, one(alloc, never)?)?;
-    assert!(rt; is_refused(alloc, &statement, &TABLE, &twice, SqlRefusal::Cardinality));
-    Ok(())
-}
-
-/// The filter is the comparison of the first column with 1.
-fn is_first_column_one(filter: &Pred) -> bool {
-    matches!(
-        filter,
-        Pred::Compare {
-            op: Op::Equal,
-            left: Operand::Column(0),
-            right: Operand::Literal(Value::Int(1))
-        }
-    )
-}
-
-/// ON key = source.key AND key = 1.
-fn on_both(alloc: Global) -> Result<Pred, AllocError> {
-    let keys = Pred::Compare {
-        op: Op::Equal,
-        left: Operand::Column(0),
-        right: Operand::Column(2),
-    };
-    let left = Boxed::new(alloc, keys)?;
-    Ok(Pred::And(left, Boxed::new(alloc, is_number(Op::Equal, 0, 1))?))
-}
-
-#[test]
-fn the_filter_of_a_merge_is_what_on_says_of_the_target(rt: HostRuntime) -> Result<(), AllocError> {
-    let alloc = rt.alloc();
-    let statement = Statement::Merge(Merge {
-        branch: Text::copy_of(alloc, "main")?,
-        source: 0,
-        on: on_both(alloc)?,
-        clauses: one(alloc, update_n(alloc)?)?,
-    });
-    assert!(rt; is_first_column_one(&filter_of(alloc, 2, &statement)?));
     Ok(())
 }
