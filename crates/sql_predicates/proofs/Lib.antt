@@ -1,1 +1,2 @@
-pub mod NormalFormLaws
+pub mod FrontLaws
+mod NormalFormLaws

@@ -1,5 +1,5 @@
 -- The normal form has no NOT, is as true as the predicate on every row, and reads the same positions.
-use Rattle.std.proofs.Common.{◌≡◌, ℕ, Bool, true, false, not, ◌&&◌, cond, List, Option, Some, None, refl, sym, ap, subst, ◌∙◌}
+use Rattle.std.proofs.Common.{◌≡◌, ℕ, Bool, true, false, not, ◌&&◌, cond, List, Option, Some, None, refl, sym, ap, ◌∙◌}
 use Rattle.std.specs.declared.cmp.Ordering.{Ordering}
 use Rattle.std.specs.declared.cmp.Ordering.TheVariants.{Less, Equal, Greater}
 use Rattle.row_values.specs.declared.value.Value.{Value}
@@ -10,10 +10,11 @@ use Rattle.sql_predicates.specs.declared.truth.Truth.TheVariants.{True, False, U
 use Rattle.sql_predicates.specs.declared.pred.Op.{Op}
 use Rattle.sql_predicates.specs.declared.pred.Op.TheVariants as op
 use Rattle.sql_predicates.specs.declared.pred.Pred.{Pred, fold-Pred, roll-Pred}
-use Rattle.sql_predicates.specs.declared.pred.Pred.TheFolds.{fold-roll-Pred, ind-Pred, map-Pred}
+use Rattle.sql_predicates.specs.declared.pred.Pred.TheFolds.{fold-roll-Pred, map-Pred}
 use Rattle.sql_predicates.specs.declared.pred.Pred.TheOpen as open_pred
-use Rattle.sql_predicates.specs.Truth.{truth, truth_level, not_truth, and_truth, or_truth, truth_of_bool, holds, of_order, compared, operand_value, value_at}
+use Rattle.sql_predicates.specs.Truth.{truth, truth_level, not_truth, and_truth, or_truth, truth_of_bool, holds, of_order, operand_value, value_at}
 use Rattle.sql_predicates.specs.Positions.{pred_is_within, pred_level_is_within}
+use Rattle.sql_predicates.proofs.FrontLaws.{Proved, by_levels, both, truth_roll, within_roll}
 use Rattle.sql_predicates.specs.NormalForm.{opposite, normal_level, normal_of, normal_form, level_has_no_not, has_no_not}
 
 -- ---- what truth and positions say of the opposite
@@ -76,19 +77,6 @@ not_or Unknown Unknown = refl
 
 abbrev IsAsTrue : List Value → Pred → Type 0
 IsAsTrue row p = (negated : Bool) → truth (normal_of p negated) row ≡ turned negated (truth p row)
-
-abbrev Proved : (Pred → Type 0) → Type 0
-Proved P = (p : Pred) × P p
-
--- an induction over predicates: P holds of each level over parts that it holds of
-by_levels : (P : Pred → Type 0) → ((y : open_pred.Pred-F (Proved P)) → P (roll-Pred (map-Pred (Proved P) Pred (λ e. e.0) y))) → (p : Pred) → P p
-by_levels P level = ind-Pred P (λ x y is. subst (λ z. P (roll-Pred z)) is (level y))
-
-both : {A B C : Type 0} (f : A → B → C) {a c : A} {b d : B} → a ≡ c → b ≡ d → f a b ≡ f c d
-both f {a = a} {d = d} p q = ap (f a) q ∙ ap (λ x. f x d) p
-
-truth_roll : (row : List Value) (x : open_pred.Pred-F Pred) → truth (roll-Pred x) row ≡ truth_level row (map-Pred Pred Truth (λ p. truth p row) x)
-truth_roll row = fold-roll-Pred Truth (truth_level row)
 
 normal_roll : (x : open_pred.Pred-F Pred) (negated : Bool) → normal_of (roll-Pred x) negated ≡ normal_level (map-Pred Pred (Bool → Pred) normal_of x) negated
 normal_roll x negated = ap (λ f. f negated) (fold-roll-Pred (Bool → Pred) normal_level x)
@@ -160,9 +148,6 @@ has_no_not-normal_form p = by_levels IsPositive positive_level p false
 
 abbrev ReadsTheSame : ℕ → Pred → Type 0
 ReadsTheSame width p = (negated : Bool) → pred_is_within width (normal_of p negated) ≡ pred_is_within width p
-
-within_roll : (width : ℕ) (x : open_pred.Pred-F Pred) → pred_is_within width (roll-Pred x) ≡ pred_level_is_within width (map-Pred Pred Bool (pred_is_within width) x)
-within_roll width = fold-roll-Pred Bool (pred_level_is_within width)
 
 -- a level and its normal form read the same
 within_normal : (width : ℕ) (x z : open_pred.Pred-F Pred) (negated : Bool) → normal_level (map-Pred Pred (Bool → Pred) normal_of x) negated ≡ roll-Pred z → pred_level_is_within width (map-Pred Pred Bool (pred_is_within width) z) ≡ pred_level_is_within width (map-Pred Pred Bool (pred_is_within width) x) → pred_is_within width (normal_of (roll-Pred x) negated) ≡ pred_is_within width (roll-Pred x)

@@ -1,6 +1,6 @@
 -- The value of an expression on a row (SQL standard, "Numeric value expression"). NULL with anything is NULL. A sum, a
 -- difference or a product of two values that its kind cannot hold is an overflow of the whole expression.
-use Rattle.std.specs.Prelude.{ℕ, ℤ, ◌+ℤ◌, ◌-ℤ◌, ◌*ℤ◌, Bool, ◌==◌, if◌then◌else◌, List, Result, Ok, Err}
+use Rattle.std.specs.Prelude.{ℕ, ℤ, ◌+ℤ◌, ◌-ℤ◌, ◌*ℤ◌, ◌==◌, if◌then◌else◌, List, Result, Ok, Err}
 use Rattle.row_values.specs.declared.kind.Kind.{Kind}
 use Rattle.row_values.specs.declared.kind.Kind.TheVariants as kind
 use Rattle.row_values.specs.declared.value.Value.{Value}

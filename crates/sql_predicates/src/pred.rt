@@ -48,3 +48,31 @@ pub enum Pred {
     And(Boxed<Pred>, Boxed<Pred>),
     Or(Boxed<Pred>, Boxed<Pred>),
 }
+
+impl Pred {
+    pub fn copy(&self, alloc: Global) -> Result<Pred, AllocError>
+        ensures { IfOk result (λ p. p ≡ self.now) }
+    {
+        match self {
+            Pred::Const(holds) => Ok(Pred::Const(*holds)),
+            Pred::Compare { op, left, right } => Ok(Pred::Compare {
+                op: *op,
+                left: left.copy(alloc)?,
+                right: right.copy(alloc)?,
+            }),
+            Pred::IsNull(at) => Ok(Pred::IsNull(*at)),
+            Pred::IsNotNull(at) => Ok(Pred::IsNotNull(*at)),
+            Pred::Not(inner) => Ok(Pred::Not(Boxed::new(alloc, inner.get().copy(alloc)?)?)),
+            Pred::And(left, right) => {
+                let left = Boxed::new(alloc, left.get().copy(alloc)?)?;
+                let right = Boxed::new(alloc, right.get().copy(alloc)?)?;
+                Ok(Pred::And(left, right))
+            }
+            Pred::Or(left, right) => {
+                let left = Boxed::new(alloc, left.get().copy(alloc)?)?;
+                let right = Boxed::new(alloc, right.get().copy(alloc)?)?;
+                Ok(Pred::Or(left, right))
+            }
+        }
+    }
+}

@@ -138,8 +138,8 @@ fn the_negation_of_equal_is_not_equal(rt: HostRuntime) -> Result<(), AllocError>
             normal,
             Pred::Compare {
                 op: Op::NotEqual,
-                left: _,
-                right: _
+                left: Operand::Column(0),
+                right: Operand::Literal(Value::Int(10))
             }
         )
     );
@@ -200,4 +200,10 @@ fn null_with_anything_is_null_and_an_int_widens(rt: HostRuntime) -> Result<(), A
     let given = value(alloc, Expr::Add(widened, one), Value::Int(i32::MAX));
     assert_eq!(rt; given, Ok(Value::Long(2147483648)));
     Ok(())
+}
+
+#[test]
+fn a_sum_within_its_kind(rt: HostRuntime) {
+    let given = step(rt.alloc(), '+', Value::Int(1), Value::Int(1));
+    assert_eq!(rt; given, Ok(Value::Int(2)));
 }

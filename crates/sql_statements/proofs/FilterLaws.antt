@@ -2,28 +2,27 @@
 use Rattle.std.proofs.Common.{◌≡◌, ℕ, Bool, true, false, ◌&&◌, ◌||◌, cond, List, [], ◌∷◌, ◌++◌, length, Option, Some, None, refl, sym, ap, subst, ◌∙◌}
 use Rattle.std.proofs.lemmas.Bool.{false≢true}
 use Rattle.std.specs.Prelude.{unwrap_or}
-use Rattle.std.specs.List.{list_any, flat_map}
+use Rattle.std.specs.List.{list_any}
 use Rattle.row_values.specs.declared.value.Value.{Value}
-use Rattle.sql_predicates.specs.declared.pred.Pred.{Pred, fold-Pred, roll-Pred}
+use Rattle.sql_predicates.specs.declared.pred.Pred.{Pred, roll-Pred}
 use Rattle.sql_predicates.specs.declared.pred.Pred.TheFolds.{fold-roll-Pred, map-Pred}
 use Rattle.sql_predicates.specs.declared.pred.Pred.TheOpen as open_pred
 use Rattle.sql_predicates.specs.declared.truth.Truth.{Truth}
 use Rattle.sql_predicates.specs.declared.truth.Truth.TheVariants.{True, False, Unknown}
-use Rattle.sql_predicates.specs.Truth.{truth, truth_level, and_truth}
+use Rattle.sql_predicates.specs.Truth.{truth, and_truth}
 use Rattle.sql_predicates.specs.Positions.{pred_is_within}
-use Rattle.sql_statements.proofs.FrontLaws.{Proved, by_levels, both, truth_roll, truth_in_front}
+use Rattle.sql_predicates.proofs.FrontLaws.{Proved, by_levels, both, truth_roll, truth_in_front}
 use Rattle.sql_statements.specs.declared.statement.Statement.{Statement}
 use Rattle.sql_statements.specs.declared.statement.Statement.TheVariants as statement
 use Rattle.sql_statements.specs.declared.statement.When.TheVariants.{NotMatchedBySource}
 use Rattle.sql_statements.specs.declared.statement.Clause.{Clause}
 use Rattle.sql_statements.specs.declared.statement.Merge.{Merge}
 use Rattle.sql_statements.specs.declared.statement.Source.{Source}
-use Rattle.sql_statements.specs.declared.effect.Effect.{Effect}
 use Rattle.sql_statements.specs.declared.effect.Effect.TheVariants.{Keep, Remove, Replace}
 use Rattle.sql_statements.specs.NewRows.{updated}
-use Rattle.sql_statements.specs.Clauses.{is_true, holds_on, nulls, match_of, matches, is_when, applies, chosen, acted, effect_by}
+use Rattle.sql_statements.specs.Clauses.{is_true, holds_on, nulls, match_of, matches, applies, chosen, acted, effect_by}
 use Rattle.sql_statements.specs.Effects.{source_at, merge_effect, effect}
-use Rattle.sql_statements.specs.Filter.{always, Split, conjoined, leaf, split_level, split_of, target_part, is_by_source, merge_filter, filter_of}
+use Rattle.sql_statements.specs.Filter.{always, Split, conjoined, leaf, split_level, split_of, target_part, is_by_source, filter_of}
 use Rattle.sql_statements.proofs.StatementLaws.{always_holds}
 
 -- ---- where a predicate is True of joined rows, its part on the first columns is True of the first row
@@ -68,6 +67,40 @@ leaf_splits row more p is = record {
 
 split_roll : (width : ℕ) (x : open_pred.Pred-F Pred) → split_of width (roll-Pred x) ≡ split_level width (map-Pred Pred Split (split_of width) x)
 split_roll width = fold-roll-Pred Split (split_level width)
+
+whole_level : (width : ℕ) (y : open_pred.Pred-F (Proved (λ p. (split_of width p).whole ≡ p))) → (split_of width (roll-Pred (map-Pred (Proved (λ p. (split_of width p).whole ≡ p)) Pred (λ e. e.0) y))).whole ≡ roll-Pred (map-Pred (Proved (λ p. (split_of width p).whole ≡ p)) Pred (λ e. e.0) y)
+whole_level width (open_pred.Const b) = ap (λ (s : Split). s.whole) (split_roll width (open_pred.Const b))
+whole_level width (open_pred.Compare op left right) = ap (λ (s : Split). s.whole) (split_roll width (open_pred.Compare op left right))
+whole_level width (open_pred.IsNull at) = ap (λ (s : Split). s.whole) (split_roll width (open_pred.IsNull at))
+whole_level width (open_pred.IsNotNull at) = ap (λ (s : Split). s.whole) (split_roll width (open_pred.IsNotNull at))
+whole_level width (open_pred.Not e) = ap (λ (s : Split). s.whole) (split_roll width (open_pred.Not e.0)) ∙ ap (λ p. roll-Pred (open_pred.Not p)) e.1
+whole_level width (open_pred.And a b) = ap (λ (s : Split). s.whole) (split_roll width (open_pred.And a.0 b.0)) ∙ both (λ p q. roll-Pred (open_pred.And p q)) a.1 b.1
+whole_level width (open_pred.Or a b) = ap (λ (s : Split). s.whole) (split_roll width (open_pred.Or a.0 b.0)) ∙ both (λ p q. roll-Pred (open_pred.Or p q)) a.1 b.1
+
+-- the whole of a split is the predicate
+pub whole_is : (width : ℕ) (p : Pred) → (split_of width p).whole ≡ p
+whole_is width = by_levels (λ p. (split_of width p).whole ≡ p) (whole_level width)
+
+abbrev IsNoAnd : Pred → Type 0
+IsNoAnd p = (left right : Pred) → p ≡ roll-Pred (open_pred.And left right) → ⊥
+
+abbrev IsLeaf : ℕ → Pred → Type 0
+IsLeaf width p = IsNoAnd p → (split_of width p).part ≡ (leaf width p).part
+
+leaf_level : (width : ℕ) (y : open_pred.Pred-F (Proved (IsLeaf width))) → IsLeaf width (roll-Pred (map-Pred (Proved (IsLeaf width)) Pred (λ e. e.0) y))
+leaf_level width (open_pred.Const b) other = ap (λ (s : Split). s.part) (split_roll width (open_pred.Const b))
+leaf_level width (open_pred.Compare op left right) other = ap (λ (s : Split). s.part) (split_roll width (open_pred.Compare op left right))
+leaf_level width (open_pred.IsNull at) other = ap (λ (s : Split). s.part) (split_roll width (open_pred.IsNull at))
+leaf_level width (open_pred.IsNotNull at) other = ap (λ (s : Split). s.part) (split_roll width (open_pred.IsNotNull at))
+leaf_level width (open_pred.Not e) other =
+    ap (λ (s : Split). s.part) (split_roll width (open_pred.Not e.0)) ∙ ap (λ p. (leaf width (roll-Pred (open_pred.Not p))).part) (whole_is width e.0)
+leaf_level width (open_pred.Or a b) other =
+    ap (λ (s : Split). s.part) (split_roll width (open_pred.Or a.0 b.0)) ∙ both (λ p q. (leaf width (roll-Pred (open_pred.Or p q))).part) (whole_is width a.0) (whole_is width b.0)
+leaf_level width (open_pred.And a b) other = absurd (other a.0 b.0 refl)
+
+-- the part of a predicate that is no AND
+pub part_of_leaf : (width : ℕ) (p : Pred) → IsNoAnd p → (split_of width p).part ≡ (leaf width p).part
+part_of_leaf width = by_levels (IsLeaf width) (leaf_level width)
 
 splits_level : (row more : List Value) (y : open_pred.Pred-F (Proved (Splits row more))) → Splits row more (roll-Pred (map-Pred (Proved (Splits row more)) Pred (λ e. e.0) y))
 splits_level row more (open_pred.Const b) = leaf_splits row more _ (split_roll (length row) (open_pred.Const b))

@@ -1,7 +1,7 @@
 pub mod Digits
 pub mod FilterLaws
-pub mod FrontLaws
 pub mod LocalLaws
+pub mod RunLaws
 pub mod StatementLaws
 pub mod Steps
 pub mod Widths

@@ -1,26 +1,26 @@
 -- What a statement inserts and why it is refused depend on the rows where its filter is True alone.
-use Rattle.std.proofs.Common.{◌≡◌, ℕ, ◌==◌, Bool, true, false, ◌&&◌, ◌||◌, cond, List, [], ◌∷◌, ◌++◌, length, Option, Some, None, refl, sym, ap, subst, ◌∙◌, IsTrue, map}
+use Rattle.std.proofs.Common.{◌≡◌, ℕ, ◌==◌, Bool, true, false, not, arith, ◌&&◌, ◌||◌, cond, List, [], ◌∷◌, ◌++◌, length, Option, Some, None, refl, sym, ap, subst, ◌∙◌, IsTrue, map}
 use Rattle.std.proofs.lemmas.Bool.{false≢true, eqb-true}
 use Rattle.std.specs.Prelude.{filter, nat_le}
 use Rattle.std.specs.List.{list_any, flat_map}
-use Rattle.plain_types.specs.Bags.{SameBag}
+use Rattle.plain_types.specs.Bags.{SameBag, total}
+use Rattle.plain_types.proofs.BagLaws.{total-append}
 use Rattle.row_values.specs.declared.value.Value.{Value}
 use Rattle.row_values.specs.declared.schema.Column.{Column}
 use Rattle.sql_predicates.specs.declared.pred.Pred.{Pred}
 use Rattle.sql_statements.specs.declared.statement.Statement.{Statement}
 use Rattle.sql_statements.specs.declared.statement.Statement.TheVariants as statement
-use Rattle.sql_statements.specs.declared.statement.Clause.{Clause}
 use Rattle.sql_statements.specs.declared.statement.Merge.{Merge}
 use Rattle.sql_statements.specs.declared.statement.Source.{Source}
 use Rattle.sql_statements.specs.declared.statement.When.TheVariants.{NotMatched}
-use Rattle.sql_statements.specs.declared.effect.Effect.TheVariants.{Keep}
 use Rattle.sql_statements.specs.declared.effect.SqlRefusal.{SqlRefusal}
 use Rattle.sql_statements.specs.declared.effect.SqlRefusal.TheVariants as refused
-use Rattle.sql_statements.specs.NewRows.{NewRow}
-use Rattle.sql_statements.specs.Clauses.{holds_on, is_match, matches, matches_two, insertion, inserted_by, chosen, nulls, refuses_two}
-use Rattle.sql_statements.specs.Effects.{effect, source_at, insertions, is_ambiguous, replacements, replacement, new_rows, value_refusal, refusal}
-use Rattle.sql_statements.specs.Filter.{always, target_part, is_by_source, merge_filter, filter_of, hits}
+use Rattle.sql_statements.specs.NewRows.{row_of}
+use Rattle.sql_statements.specs.Clauses.{holds_on, is_match, matches_two, insertion, inserted_by, chosen, nulls, refuses_two}
+use Rattle.sql_statements.specs.Effects.{source_at, insertions, is_ambiguous, replacements, replacement, new_rows, value_refusal, refusal, remains, remaining, rows_after, unless_refused, result_of}
+use Rattle.sql_statements.specs.Filter.{always, target_part, is_by_source, merge_filter, filter_of, hits, misses}
 use Rattle.sql_statements.specs.Fits.{are_wide}
+use Rattle.sql_statements.specs.Results.{SameResult, beside}
 use Rattle.sql_statements.proofs.StatementLaws.{always_holds, flat_map_same, insertions_of_bag, refusal_of_bag}
 use Rattle.sql_statements.proofs.FilterLaws.{kept_outside, target_part_holds, no_matches}
 
@@ -120,3 +120,44 @@ local_insertions width sources s xs ys wide also same =
 pub local_refusal : (columns : List Column) (sources : List Source) (s : Statement) (xs ys : List (List Value)) → IsTrue (are_wide (length columns) xs) → IsTrue (are_wide (length columns) ys) → SameBag (hits (length columns) s xs) (hits (length columns) s ys) → refusal columns sources s xs ≡ refusal columns sources s ys
 local_refusal columns sources s xs ys wide also same =
     refusal_of_hits columns sources s xs wide ∙ refusal_of_bag columns sources s _ _ same ∙ sym (refusal_of_hits columns sources s ys also)
+
+-- ---- the rows that the filter leaves out stay, and the others are all that the statement acts on
+
+split_by_hit : (width : ℕ) (hit : List Value → Bool) (f : List Value → List (List Value)) → ((row : List Value) → length row ≡ width → hit row ≡ false → f row ≡ row ∷ []) → (rows : List (List Value)) → IsTrue (are_wide width rows) → SameBag (flat_map f rows) (filter (λ row. not (hit row)) rows ++ flat_map f (filter hit rows))
+split_by_hit width hit f stays [] wide weight = refl
+split_by_hit width hit f stays (row ∷ rows) wide weight =
+    by (hit row) (stays row (eqb-true (length row) width (and_left (length row == width) (are_wide width rows) wide)))
+    (split_by_hit width hit f stays rows (and_right (length row == width) (are_wide width rows) wide) weight)
+  where
+    missed : List (List Value)
+    missed = filter (λ r. not (hit r)) rows
+
+    met : List (List Value)
+    met = filter hit rows
+
+    by : (found : Bool) → (found ≡ false → f row ≡ row ∷ []) → total weight (flat_map f rows) ≡ total weight (missed ++ flat_map f met) → total weight (f row ++ flat_map f rows) ≡ total weight (cond (not found) (row ∷ missed) missed ++ flat_map f (cond found (row ∷ met) met))
+    by true stay rest =
+        omega (arith, rest, total-append weight (f row) (flat_map f rows), total-append weight missed (f row ++ flat_map f met), total-append weight (f row) (flat_map f met), total-append weight missed (flat_map f met))
+    by false stay rest = omega (arith, rest, ap (total weight) (stay refl), total-append weight (f row) (flat_map f rows))
+
+row_stays : (sources : List Source) (s : Statement) (width : ℕ) (row : List Value) → length row ≡ width → holds_on (filter_of width s) row ≡ false → remains sources s row ≡ row ∷ []
+unfolding remains
+row_stays sources s width row is out = ap (λ e. remaining e row) (kept_outside sources s row (ap (λ n. holds_on (filter_of n s) row) is ∙ out))
+
+rows_after_split : (width : ℕ) (sources : List Source) (s : Statement) (rows : List (List Value)) → IsTrue (are_wide width rows) → SameBag (rows_after width sources s rows) (misses width s rows ++ rows_after width sources s (hits width s rows))
+rows_after_split width sources s rows wide weight =
+    let left = flat_map (remains sources s) rows in
+    let missed = misses width s rows in
+    let met = flat_map (remains sources s) (hits width s rows) in
+    let made = map row_of (insertions width sources s rows) in
+    let same = map row_of (insertions width sources s (hits width s rows)) in
+    omega (arith, split_by_hit width (holds_on (filter_of width s)) (remains sources s) (row_stays sources s width) rows wide weight, ap (λ more. total weight (map row_of more)) (insertions_of_hits width sources s rows wide), total-append weight left made, total-append weight missed (met ++ same), total-append weight met same, total-append weight missed met)
+
+beside_same : (why : Option SqlRefusal) (kept xs ys : List (List Value)) → SameBag xs (kept ++ ys) → SameResult (unless_refused why xs) (beside kept (unless_refused why ys))
+beside_same None kept xs ys same = same
+beside_same (Some why) kept xs ys same = refl
+
+pub acts_on_hits : (columns : List Column) (sources : List Source) (s : Statement) (rows : List (List Value)) → IsTrue (are_wide (length columns) rows) → SameResult (result_of columns sources s rows) (beside (misses (length columns) s rows) (result_of columns sources s (hits (length columns) s rows)))
+acts_on_hits columns sources s rows wide =
+    subst (λ why. SameResult (result_of columns sources s rows) (beside (misses (length columns) s rows) (unless_refused why (rows_after (length columns) sources s (hits (length columns) s rows))))) (refusal_of_hits columns sources s rows wide)
+    (beside_same (refusal columns sources s rows) (misses (length columns) s rows) _ _ (rows_after_split (length columns) sources s rows wide))

@@ -1,16 +1,16 @@
 -- What a statement does is a function of the bag of rows, and the laws of INSERT and DELETE.
-use Rattle.std.proofs.Common.{◌≡◌, ℕ, ◌+◌, Bool, true, false, ◌&&◌, cond, List, [], ◌∷◌, ◌++◌, map, length, Option, Some, None, Ok, Err, refl, sym, ap, subst, ◌∙◌}
+use Rattle.std.proofs.Common.{◌≡◌, ℕ, ◌+◌, Bool, true, false, ◌&&◌, cond, List, [], ◌∷◌, ◌++◌, map, length, Option, Some, None, refl, ap, subst, ◌∙◌}
 use Rattle.std.specs.List.{list_any, flat_map}
 use Rattle.plain_types.specs.Bags.{SameBag, total}
 use Rattle.plain_types.proofs.BagLaws.{SameBag-append, SameBag-flat_map, SameBag-list_any}
 use Rattle.row_values.specs.declared.value.Value.{Value}
 use Rattle.row_values.specs.declared.schema.Column.{Column}
 use Rattle.sql_predicates.specs.declared.expr.Expr.{Expr}
-use Rattle.sql_predicates.specs.declared.pred.Pred.{Pred, roll-Pred}
+use Rattle.sql_predicates.specs.declared.pred.Pred.{Pred}
 use Rattle.sql_predicates.specs.declared.pred.Pred.TheFolds.{fold-roll-Pred}
 use Rattle.sql_predicates.specs.declared.pred.Pred.TheOpen as open_pred
 use Rattle.sql_predicates.specs.declared.truth.Truth.{Truth}
-use Rattle.sql_predicates.specs.Truth.{truth, truth_level}
+use Rattle.sql_predicates.specs.Truth.{truth_level}
 use Rattle.sql_statements.specs.declared.statement.Statement.{Statement}
 use Rattle.sql_statements.specs.declared.statement.Statement.TheVariants as statement
 use Rattle.sql_statements.specs.declared.statement.Clause.{Clause}

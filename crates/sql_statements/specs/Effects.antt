@@ -1,6 +1,6 @@
 -- What each statement does with each row, which rows it inserts, when it is refused, and what it leaves: a function of the
 -- rows of its branch (SQL standard, "Data manipulation"; Iceberg's Spark pages, "Writes").
-use Rattle.std.specs.Prelude.{ℕ, Bool, true, false, ◌&&◌, if◌then◌else◌, List, [], ◌∷◌, ◌++◌, map, length, Option, Some, None, unwrap_or, slice_get, Result, Ok, Err}
+use Rattle.std.specs.Prelude.{ℕ, Bool, false, ◌&&◌, if◌then◌else◌, List, [], ◌∷◌, ◌++◌, map, length, Option, Some, None, unwrap_or, slice_get, Result, Ok, Err}
 use Rattle.std.specs.List.{list_any, flat_map}
 use Rattle.row_values.specs.declared.value.Value.{Value}
 use Rattle.row_values.specs.declared.schema.Column.{Column}

@@ -1,6 +1,6 @@
 -- The rows that a statement depends on are those where its filter is True: its WHERE, and for a MERGE what ON says of the
 -- target's columns alone.
-use Rattle.std.specs.Prelude.{ℕ, Bool, true, false, if◌then◌else◌, List, Option, Some, None, unwrap_or, filter}
+use Rattle.std.specs.Prelude.{ℕ, Bool, true, false, not, if◌then◌else◌, List, Option, Some, None, unwrap_or, filter}
 use Rattle.std.specs.List.{list_any}
 use Rattle.row_values.specs.declared.value.Value.{Value}
 use Rattle.sql_predicates.specs.declared.pred.Pred.{Pred, fold-Pred, roll-Pred}
@@ -69,3 +69,7 @@ filter_of width (statement.Select branch condition) = condition
 -- the rows that the statement depends on
 abbrev pub hits : ℕ → Statement → List (List Value) → List (List Value)
 hits width s rows = filter (holds_on (filter_of width s)) rows
+
+-- the other rows
+abbrev pub misses : ℕ → Statement → List (List Value) → List (List Value)
+misses width s rows = filter (λ row. not (holds_on (filter_of width s) row)) rows

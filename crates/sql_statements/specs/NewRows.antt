@@ -1,6 +1,6 @@
 -- The rows that INSERT, UPDATE and MERGE make (SQL standard, "INSERT statement" and "UPDATE statement: searched"), and what
 -- is wrong with one. A value of a new row that overflowed is absent.
-use Rattle.std.specs.Prelude.{ℕ, ◌+◌, Bool, true, false, not, ◌&&◌, ◌||◌, ◌==◌, if◌then◌else◌, List, [], ◌∷◌, map, Option, Some, None, is_none, unwrap_or, slice_get, Ok, Err}
+use Rattle.std.specs.Prelude.{ℕ, ◌+◌, Bool, true, false, not, ◌&&◌, ◌||◌, ◌==◌, if◌then◌else◌, List, [], ◌∷◌, map, Option, Some, None, unwrap_or, slice_get, Ok, Err}
 use Rattle.std.specs.List.{list_any}
 use Rattle.row_values.specs.declared.kind.Kind.{Kind}
 use Rattle.row_values.specs.declared.kind.Kind.TheVariants as kind

@@ -1,6 +1,6 @@
 -- A serial run: statements one after another on the branches of a table, by their definitions alone (Iceberg's Spark pages,
 -- "Branches").
-use Rattle.std.specs.Prelude.{ℕ, Bool, true, false, ◌&&◌, if◌then◌else◌, nat_eq, codes, List, [], ◌∷◌, ◌++◌, Option, Some, None, option_and_then, is_none, not, filter, Result, Ok, Err}
+use Rattle.std.specs.Prelude.{ℕ, Bool, if◌then◌else◌, nat_eq, codes, List, [], ◌∷◌, ◌++◌, Option, Some, None, option_and_then, is_none, Result, Ok, Err}
 use Rattle.std.specs.Cmp.Lexicographic.{pointwise}
 use Rattle.row_values.specs.declared.value.Value.{Value}
 use Rattle.row_values.specs.declared.schema.Column.{Column}

@@ -10,12 +10,12 @@ ghost use Rattle.sql_statements.specs.declared.statement.Source.{Source};
 ghost use Rattle.sql_statements.specs.declared.statement.Statement.{Statement};
 ghost use Rattle.sql_statements.specs.declared.statement.Statement.TheVariants as statement;
 ghost use Rattle.sql_statements.specs.Effects.{effect, insertions, result_of, refusal, rows_after};
-ghost use Rattle.sql_statements.specs.Filter.{always, filter_of, hits};
+ghost use Rattle.sql_statements.specs.Filter.{always, filter_of, hits, misses};
 ghost use Rattle.sql_statements.specs.Fits.{are_wide};
 ghost use Rattle.sql_statements.specs.Clauses.{holds_on};
 ghost use Rattle.sql_statements.specs.declared.effect.Effect.TheVariants.{Keep};
 ghost use Rattle.sql_statements.specs.NewRows.{new_row, row_of};
-ghost use Rattle.sql_statements.specs.Results.{SameResult};
+ghost use Rattle.sql_statements.specs.Results.{SameResult, beside};
 
 /// The same bag of rows, the same refusal or the same bag after the statement.
 pub fn order_of_rows_does_not_matter()
@@ -56,4 +56,13 @@ pub fn statements_depend_on_the_rows_of_their_filter()
         IsTrue (are_wide (length columns) xs) → IsTrue (are_wide (length columns) ys) →
         SameBag (hits (length columns) s xs) (hits (length columns) s ys) →
         refusal columns sources s xs ≡ refusal columns sources s ys }
+{}
+
+/// A statement leaves the rows outside its filter as they are, beside what it leaves of the others,
+/// and is refused where it is refused on those alone.
+pub fn a_statement_acts_on_the_rows_of_its_filter()
+    ensures { (columns : List Column) (sources : List Source) (s : Statement) (rows : List (List Value)) →
+        IsTrue (are_wide (length columns) rows) →
+        SameResult (result_of columns sources s rows)
+        (beside (misses (length columns) s rows) (result_of columns sources s (hits (length columns) s rows))) }
 {}

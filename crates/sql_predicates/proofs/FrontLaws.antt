@@ -1,19 +1,14 @@
 -- Induction over predicates, and predicates on the front of a row.
-use Rattle.std.proofs.Common.{◌≡◌, ℕ, ◌+◌, ◌<◌, Bool, true, false, not, ◌&&◌, ◌||◌, cond, List, [], ◌∷◌, ◌++◌, length, Option, Some, None, refl, sym, ap, subst, ◌∙◌, nat_lt, zero, suc, arith}
+use Rattle.std.proofs.Common.{◌≡◌, ℕ, ◌<◌, Bool, true, false, not, ◌&&◌, List, [], ◌∷◌, ◌++◌, length, refl, sym, ap, subst, ◌∙◌, nat_lt, zero, suc, arith}
 use Rattle.std.proofs.lemmas.Bool.{false≢true, ltb-true}
-use Rattle.std.specs.Prelude.{unwrap_or, slice_get}
-use Rattle.std.specs.List.{list_any, flat_map}
 use Rattle.row_values.specs.declared.value.Value.{Value}
-use Rattle.row_values.specs.declared.value.Value.TheVariants as value
 use Rattle.row_values.specs.Rows.{is_null}
-use Rattle.sql_predicates.specs.declared.pred.Op.{Op}
 use Rattle.sql_predicates.specs.declared.pred.Operand.{Operand}
 use Rattle.sql_predicates.specs.declared.pred.Operand.TheVariants as operand
-use Rattle.sql_predicates.specs.declared.pred.Pred.{Pred, fold-Pred, roll-Pred}
+use Rattle.sql_predicates.specs.declared.pred.Pred.{Pred, roll-Pred}
 use Rattle.sql_predicates.specs.declared.pred.Pred.TheFolds.{fold-roll-Pred, ind-Pred, map-Pred}
 use Rattle.sql_predicates.specs.declared.pred.Pred.TheOpen as open_pred
 use Rattle.sql_predicates.specs.declared.truth.Truth.{Truth}
-use Rattle.sql_predicates.specs.declared.truth.Truth.TheVariants.{True, False, Unknown}
 use Rattle.sql_predicates.specs.Truth.{truth, truth_level, compared, operand_value, value_at, truth_of_bool, not_truth, and_truth, or_truth}
 use Rattle.sql_predicates.specs.Positions.{pred_is_within, pred_level_is_within, operand_is_within}
 
@@ -30,7 +25,7 @@ both f {a = a} {d = d} p q = ap (f a) q ∙ ap (λ x. f x d) p
 pub truth_roll : (row : List Value) (x : open_pred.Pred-F Pred) → truth (roll-Pred x) row ≡ truth_level row (map-Pred Pred Truth (λ p. truth p row) x)
 truth_roll row = fold-roll-Pred Truth (truth_level row)
 
-within_roll : (width : ℕ) (x : open_pred.Pred-F Pred) → pred_is_within width (roll-Pred x) ≡ pred_level_is_within width (map-Pred Pred Bool (pred_is_within width) x)
+pub within_roll : (width : ℕ) (x : open_pred.Pred-F Pred) → pred_is_within width (roll-Pred x) ≡ pred_level_is_within width (map-Pred Pred Bool (pred_is_within width) x)
 within_roll width = fold-roll-Pred Bool (pred_level_is_within width)
 
 and_left : (a b : Bool) → (a && b) ≡ true → a ≡ true
