@@ -18,7 +18,8 @@ use Rattle.avro_rows.specs.declared.row_fault.RowFault.{RowFault}
 use Rattle.avro_rows.specs.declared.row_fault.RowFault.TheVariants as fault
 use Rattle.avro_rows.specs.declared.source.Source.{Source}
 use Rattle.avro_rows.specs.Carrier.{carries}
-use Rattle.avro_rows.specs.DatumValue.{of_kind, content_of, value_of, inside, is_null_datum}
+use Rattle.kind_values.specs.KindValues.{of_kind}
+use Rattle.avro_rows.specs.DatumValue.{content_of, value_of, inside, is_null_datum}
 use Rattle.avro_rows.specs.Sources.{has_id, carried, source_from, sources_from, fields_of}
 use Rattle.avro_rows.specs.Rows.{values_of, null_at, held_at, value_at, row_from, rows_from, rows_of}
 use Rattle.avro_rows.proofs.Stepwise.{two_steps, one_value}

@@ -1,8 +1,9 @@
 -- Which Avro types carry a column's kind (Iceberg specification, Appendix A, "Avro", and "Schema Evolution" for an int
 -- under a long; Avro 1.11.1, "Logical Types" and "Unions").
-use Rattle.std.specs.Prelude.{ℕ, nat_eq, nat_lt, Bool, true, false, ◌&&◌, if◌then◌else◌, List, [], ◌∷◌}
+use Rattle.std.specs.Prelude.{ℕ, nat_eq, Bool, true, false, ◌&&◌, if◌then◌else◌, List, [], ◌∷◌}
 use Rattle.row_values.specs.declared.kind.Kind.{Kind}
 use Rattle.row_values.specs.declared.kind.Kind.TheVariants as kind
+use Rattle.kind_values.specs.KindValues.{is_decimal_size}
 use Rattle.avro_binary.specs.declared.schema.Schema.{Schema, out-Schema}
 use Rattle.avro_binary.specs.declared.schema.Field.{Field}
 use Rattle.avro_binary.specs.declared.schema.Schema.TheOpen as open_schema
@@ -23,10 +24,6 @@ is_instant_type _ = false
 abbrev pub is_decimal_type : ℕ → Logical → Bool
 is_decimal_type wanted (logical.Decimal precision scale) = nat_eq scale wanted
 is_decimal_type wanted _ = false
-
--- the sizes whose amounts have 128 bits
-abbrev pub is_decimal_size : ℕ → Bool
-is_decimal_size size = nat_lt 0 size && nat_lt size 17
 
 -- a type that is no union
 abbrev pub carries_bare : Kind → open_schema.Schema-F Schema Field → Bool

@@ -1,24 +1,14 @@
 -- The value that a datum has for a column's kind (Iceberg specification, Appendix A, "Avro"; Avro 1.11.1, "Logical
 -- Types").
-use Rattle.std.specs.Prelude.{ℕ, List, length, Bool, true, false, Option, Some, None, option_and_then, if◌then◌else◌}
+use Rattle.std.specs.Prelude.{Bool, true, false, Option, Some, None, option_and_then}
 use Rattle.row_values.specs.declared.kind.Kind.{Kind}
 use Rattle.row_values.specs.declared.kind.Kind.TheVariants as kind
 use Rattle.row_values.specs.declared.value.Value.{Value}
 use Rattle.row_values.specs.declared.value.Value.TheVariants as value
-use Rattle.row_values.specs.Rows.{is_value}
 use Rattle.avro_binary.specs.declared.datum.Datum.{Datum, out-Datum}
 use Rattle.avro_binary.specs.declared.datum.MapPair.{MapPair}
 use Rattle.avro_binary.specs.declared.datum.Datum.TheOpen as open_datum
-use Rattle.avro_rows.specs.Carrier.{is_decimal_size}
-use Rattle.avro_rows.specs.Decimals.{signed_of}
-
--- the value, where it is one of the kind: within its range, and a text of UTF-8
-abbrev pub of_kind : Kind → Value → Option Value
-of_kind k v = if is_value k v then Some v else None
-
--- the amount that the bytes are, of this scale
-abbrev pub decimal_of : ℕ → List ℕ → Option Value
-decimal_of scale bytes = if is_decimal_size (length bytes) then Some (value.Decimal (signed_of bytes) scale) else None
+use Rattle.kind_values.specs.KindValues.{of_kind, decimal_of}
 
 -- what the datum says, of whatever range
 abbrev pub content_of : Kind → open_datum.Datum-F Datum MapPair → Option Value

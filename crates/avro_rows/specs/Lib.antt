@@ -1,6 +1,5 @@
 pub mod Carrier
 pub mod Columns
 pub mod DatumValue
-pub mod Decimals
 pub mod Rows
 pub mod Sources

@@ -1,7 +1,8 @@
 //! Whether an Avro type carries a kind.
 ghost use Rattle.std.specs.Prelude.{◌≡◌};
 ghost use Rattle.avro_binary.specs.declared.schema.Schema.{out-Schema};
-ghost use Rattle.avro_rows.specs.Carrier.{is_null_type, is_instant_type, is_decimal_type, is_decimal_size, carries_bare, carries_branch, carries};
+ghost use Rattle.kind_values.specs.KindValues.{is_decimal_size};
+ghost use Rattle.avro_rows.specs.Carrier.{is_null_type, is_instant_type, is_decimal_type, carries_bare, carries_branch, carries};
 
 use avro_binary::{Logical, Schema};
 use row_values::Kind;
@@ -77,7 +78,7 @@ fn carries_branch(kind: Kind, branches: &[Schema]) -> bool
     false
 }
 
-pub(crate) fn carries(kind: Kind, schema: &Schema) -> bool
+pub fn carries(kind: Kind, schema: &Schema) -> bool
     ensures { result ≡ carries kind schema.now }
 {
     match schema {

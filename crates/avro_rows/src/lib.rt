@@ -6,7 +6,6 @@
 #![tactic(auto)]
 
 mod carrier;
-mod decimal;
 mod laws;
 mod reading;
 mod row_fault;
@@ -16,7 +15,10 @@ mod tests;
 mod value;
 
 pub use avro_container::Container;
+pub use carrier::carries;
 pub use laws::{columns_are_read_each_for_itself, rows_are_of_their_columns};
-pub use reading::read_rows;
+pub use reading::{read_rows, values_of};
 pub use row_fault::RowFault;
 pub use row_values::{Column, Kind, List, Row, TableSchema, Value};
+pub use source::{fields_of, has_id};
+pub use value::{inside, is_null_datum, value_of};

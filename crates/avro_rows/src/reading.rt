@@ -12,7 +12,7 @@ use row_values::{List, Row, TableSchema, Value};
 use std::alloc::Global;
 
 /// The values of a record's fields, of which a datum of another type has none.
-fn values_of(datum: &Datum) -> &[Datum]
+pub fn values_of(datum: &Datum) -> &[Datum]
     ensures { result.now ≡ values_of datum.now }
 {
     match datum {

@@ -17,7 +17,7 @@ pub struct Source {
     pub place: Option<usize>,
 }
 
-fn has_id(id: i32, field: &Field) -> bool
+pub fn has_id(id: i32, field: &Field) -> bool
     ensures { result ≡ has_id id field.now }
 {
     match field.id {
@@ -96,7 +96,7 @@ pub(crate) fn sources_of(
 }
 
 /// The fields of a record, of which a schema of another type has none.
-pub(crate) fn fields_of(schema: &Schema) -> &[Field]
+pub fn fields_of(schema: &Schema) -> &[Field]
     ensures { result.now ≡ fields_of schema.now }
 {
     match schema {

@@ -1,106 +1,17 @@
 //! The value of a datum for a kind.
-ghost use Rattle.std.specs.Prelude.{◌≡◌, IfOk, option_and_then};
-ghost use Rattle.row_values.specs.Rows.{has_digits};
+ghost use Rattle.std.specs.Prelude.{◌≡◌, IfOk};
 ghost use Rattle.avro_binary.specs.declared.datum.Datum.{out-Datum};
-ghost use Rattle.avro_rows.specs.DatumValue.{of_kind, decimal_of, value_of, inside, is_null_datum};
+ghost use Rattle.avro_rows.specs.DatumValue.{value_of, inside, is_null_datum};
 
-use crate::decimal::signed_of;
 use avro_binary::Datum;
-use row_values::{Bytes, Kind, Text, Value};
+use kind_values::{
+    bytes_value, date_value, decimal_value, int_value, long_value, text_value, timestamp_value,
+};
+use row_values::{Kind, Value};
 use std::alloc::{AllocError, Global};
 
-/// 0001-01-01 and 9999-12-31 in days from 1970-01-01.
-const FIRST_DAY: i32 = -719162;
-
-const LAST_DAY: i32 = 2932896;
-
-/// The first and the last microsecond of these days.
-const FIRST_INSTANT: i64 = -62135596800000000;
-
-const LAST_INSTANT: i64 = 253402300799999999;
-
-fn int_value(number: i32) -> Option<Value>
-    ensures { result ≡ of_kind Kind.Int (Value.Int number) }
-{
-    Some(Value::Int(number))
-}
-
-fn long_value(number: i64) -> Option<Value>
-    ensures { result ≡ of_kind Kind.Long (Value.Long number) }
-{
-    Some(Value::Long(number))
-}
-
-fn date_value(days: i32) -> Option<Value>
-    ensures { result ≡ of_kind Kind.Date (Value.Date days) }
-{
-    if FIRST_DAY <= days && days <= LAST_DAY {
-        Some(Value::Date(days))
-    } else {
-        None
-    }
-}
-
-fn timestamp_value(utc: bool, micros: i64) -> Option<Value>
-    ensures { result ≡ of_kind (Kind.Timestamp utc) (Value.Timestamp micros) }
-{
-    if FIRST_INSTANT <= micros && micros <= LAST_INSTANT {
-        Some(Value::Timestamp(micros))
-    } else {
-        None
-    }
-}
-
-/// The most digits that an amount of 128 bits can pass.
-const MOST_DIGITS: u8 = 38;
-
-/// Whether the amount has at most so many digits.
-#[tactic(auto)]
-fn has_digits(precision: u8, amount: i128) -> bool
-    ensures { result ≡ has_digits precision amount }
-{
-    if precision > MOST_DIGITS {
-        return true;
-    }
-    amount.unsigned_abs() < 10u128.pow(u32::from(precision))
-}
-
-fn decimal_value(precision: u8, scale: u8, bytes: &[u8]) -> Option<Value>
-    ensures { result ≡ option_and_then (of_kind (Kind.Decimal precision scale)) (decimal_of scale bytes.now) }
-{
-    if bytes.is_empty() || bytes.len() > 16 {
-        return None;
-    }
-    let unscaled = signed_of(bytes);
-    if has_digits(precision, unscaled) {
-        Some(Value::Decimal { unscaled, scale })
-    } else {
-        None
-    }
-}
-
-fn text_value(alloc: Global, bytes: &[u8]) -> Result<Option<Value>, AllocError>
-    ensures { IfOk result (λ v. v ≡ of_kind Kind.Text (Value.Text bytes.now)) }
-{
-    match str::from_utf8(bytes) {
-        Ok(text) => Ok(Some(Value::Text(Text::copy_of(alloc, text)?))),
-        Err(_) => Ok(None),
-    }
-}
-
-#[tactic(auto, using(crate::proofs::Octets::all_octets))]
-fn bytes_value(alloc: Global, bytes: &[u8]) -> Result<Option<Value>, AllocError>
-    ensures { IfOk result (λ v. v ≡ of_kind Kind.Bytes (Value.Bytes bytes.now)) }
-{
-    Ok(Some(Value::Bytes(Bytes::copy_of(alloc, bytes)?)))
-}
-
 /// The value of a datum that is neither NULL nor in a union.
-pub(crate) fn value_of(
-    alloc: Global,
-    kind: Kind,
-    datum: &Datum,
-) -> Result<Option<Value>, AllocError>
+pub fn value_of(alloc: Global, kind: Kind, datum: &Datum) -> Result<Option<Value>, AllocError>
     ensures { IfOk result (λ v. v ≡ value_of kind datum.now) }
 {
     match (kind, datum) {
@@ -124,7 +35,7 @@ pub(crate) fn value_of(
 }
 
 /// What stands in a union, or the datum itself.
-pub(crate) fn inside(datum: &Datum) -> &Datum
+pub fn inside(datum: &Datum) -> &Datum
     ensures { result.now ≡ inside datum.now }
 {
     match datum {
@@ -133,7 +44,7 @@ pub(crate) fn inside(datum: &Datum) -> &Datum
     }
 }
 
-pub(crate) fn is_null_datum(datum: &Datum) -> bool
+pub fn is_null_datum(datum: &Datum) -> bool
     ensures { result ≡ is_null_datum (out-Datum datum.now) }
 {
     match datum {

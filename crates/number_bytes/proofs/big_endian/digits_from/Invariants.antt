@@ -1,7 +1,7 @@
 use Rattle.std.proofs.Common.{length}
-use Rattle.avro_rows.specs.Decimals.{first_digit, digits_from}
-use Rattle.avro_rows.proofs.Amounts.{Gives}
-use Rattle.avro_rows.proofs.decimal.digits_from.Given as goal
+use Rattle.number_bytes.specs.BigEndian.{first_digit, digits_from}
+use Rattle.number_bytes.proofs.Amounts.{Gives}
+use Rattle.number_bytes.proofs.big_endian.digits_from.Given as goal
 
 -- the bytes that are left give the same number, which has room for them
 abbrev pub invariant-loop-rest : goal.invariant-loop-rest

@@ -5,7 +5,7 @@ use Rattle.std.specs.Int.{w128}
 use Rattle.std.proofs.lemmas.Int.{ints}
 use Rattle.std.proofs.lemmas.Bool.Decides.{nat_tests}
 use Rattle.std.proofs.Math.Nat.{pow-suc, pow-le-pow_right}
-use Rattle.avro_rows.specs.Decimals.{Within, first_digit, digits_from}
+use Rattle.number_bytes.specs.BigEndian.{Within, first_digit, digits_from}
 
 scaled : (power : ℕ) (number : ℤ) (byte : ℕ) → byte < 256 → neg_ℤ (pos (128 * power)) ≤ℤ number → number <ℤ pos (128 * power) → (neg_ℤ (pos (128 * (power * 256))) ≤ℤ ((number *ℤ pos 256) +ℤ pos byte)) × (((number *ℤ pos 256) +ℤ pos byte) <ℤ pos (128 * (power * 256)))
 scaled power number byte b low high = (omega (arith, ints), omega (arith, ints))

@@ -4,7 +4,7 @@ use Rattle.std.specs.Str.{is_utf8, IsUtf8}
 use Rattle.std.proofs.lemmas.Str.{IsUtf8-from_is_utf8, is_utf8-from_IsUtf8}
 use Rattle.row_values.specs.declared.kind.Kind.TheVariants as kind
 use Rattle.row_values.specs.declared.value.Value.TheVariants as value
-use Rattle.avro_rows.specs.DatumValue.{of_kind}
+use Rattle.kind_values.specs.KindValues.{of_kind}
 
 pub a_text : (bytes text : List ℕ) → IsUtf8 bytes → text ≡ bytes → Some (value.Text text) ≡ of_kind kind.Text (value.Text bytes)
 a_text bytes text utf8 is =

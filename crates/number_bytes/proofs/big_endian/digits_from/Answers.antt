@@ -1,9 +1,9 @@
 use Rattle.std.proofs.Common.{length, ◌<◌, ◌-◌, get_or, FitsSigned, to_z, of_z, rules, arith, ◌∙◌}
 use Rattle.std.specs.Int.{w128}
 use Rattle.std.proofs.lemmas.Int.{to_z-of_z}
-use Rattle.avro_rows.specs.Decimals.{first_digit, digits_from}
-use Rattle.avro_rows.proofs.Amounts.{with_room, begins, goes_on}
-use Rattle.avro_rows.proofs.decimal.digits_from.Goals as goal
+use Rattle.number_bytes.specs.BigEndian.{first_digit, digits_from}
+use Rattle.number_bytes.proofs.Amounts.{with_room, begins, goes_on}
+use Rattle.number_bytes.proofs.big_endian.digits_from.Goals as goal
 
 pub loop-rest-init : goal.loop-rest-init
 loop-rest-init c =

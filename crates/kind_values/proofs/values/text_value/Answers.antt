@@ -1,6 +1,6 @@
 use Rattle.std.proofs.Common.{◌∙◌}
-use Rattle.avro_rows.proofs.Texts.{a_text, no_text}
-use Rattle.avro_rows.proofs.value.text_value.Goals as goal
+use Rattle.kind_values.proofs.Texts.{a_text, no_text}
+use Rattle.kind_values.proofs.values.text_value.Goals as goal
 
 pub returns-in_ok-copy_of-in-Ok : goal.returns-in_ok-copy_of-in-Ok
 returns-in_ok-copy_of-in-Ok c = a_text c.args.bytes.now c.in_ok-copy_of-in-Ok.field-0 c.in-Ok.ensures.cases.1 (c.in_ok-copy_of-in-Ok.ensures ∙ c.in-Ok.ensures.cases.0)

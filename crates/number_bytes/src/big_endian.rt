@@ -1,6 +1,6 @@
-//! Amounts in two's complement.
+//! Whole numbers of at most 16 bytes, the highest byte first.
 ghost use Rattle.std.specs.Prelude.{◌≡◌, length, ◌≤◌, pos, ◌+ℤ◌, ◌*ℤ◌};
-ghost use Rattle.avro_rows.specs.Decimals.{Within, first_digit, digits_from, signed_of};
+ghost use Rattle.number_bytes.specs.BigEndian.{Within, first_digit, digits_from, signed_of};
 
 /// The first byte, which carries the sign.
 fn first_digit(byte: u8) -> i128
@@ -23,7 +23,7 @@ fn next_digit(number: i128, byte: u8) -> i128
 }
 
 /// The number whose digits to the base 256 go on with these bytes.
-#[tactic(auto, unfolding(crate::specs::Decimals::digits_from))]
+#[tactic(auto, unfolding(crate::specs::BigEndian::digits_from))]
 fn digits_from(first: u8, bytes: &[u8]) -> i128
     requires { length bytes.now ≤ 15 }
     ensures { result ≡ digits_from (first_digit first) bytes.now }
@@ -38,7 +38,7 @@ fn digits_from(first: u8, bytes: &[u8]) -> i128
 }
 
 /// The whole number that the bytes are in big-endian two's complement.
-pub(crate) fn signed_of(bytes: &[u8]) -> i128
+pub fn signed_of(bytes: &[u8]) -> i128
     requires { length bytes.now ≤ 16 }
     ensures { result ≡ signed_of bytes.now }
 {

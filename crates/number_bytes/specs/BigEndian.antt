@@ -1,4 +1,5 @@
--- A decimal's unscaled amount as big-endian two's complement (Avro 1.11.1, "Decimal").
+-- Whole numbers as big-endian two's complement, the highest byte first (Iceberg specification, Appendix D, "Binary
+-- single-value serialization"; Avro 1.11.1, "Decimal").
 use Rattle.std.specs.Prelude.{ℕ, nat_lt, ◌*◌, ◌^◌, ℤ, pos, neg_ℤ, ◌+ℤ◌, ◌-ℤ◌, ◌*ℤ◌, ◌≤ℤ◌, ◌<ℤ◌, if◌then◌else◌, List, [], ◌∷◌}
 
 -- the first byte, which carries the sign

@@ -1,7 +1,7 @@
 use Rattle.std.specs.Int.{w128}
 use Rattle.std.proofs.lemmas.Int.{to_z-of_z}
-use Rattle.avro_rows.proofs.Digits.{few, below, power_fits}
-use Rattle.avro_rows.proofs.value.has_digits.Goals as goal
+use Rattle.kind_values.proofs.Digits.{few, below, power_fits}
+use Rattle.kind_values.proofs.values.has_digits.Goals as goal
 
 pub returns-then-precision-gt-MOST_DIGITS : goal.returns-then-precision-gt-MOST_DIGITS
 returns-then-precision-gt-MOST_DIGITS c = few c.args.precision c.args.amount c.if-precision-gt-MOST_DIGITS.true c.ranges.amount

@@ -1,0 +1,141 @@
+-- Where the fields of a manifest stand in its records (Iceberg specification, "Manifests" and "Manifest Lists"). A field
+-- is found by its id, never by its name or place; of two with one id the first counts.
+use Rattle.std.specs.Prelude.{ℕ, ◌+◌, ℤ, pos, List, [], ◌∷◌, ◌++◌, Option, Some, None, option_map, option_and_then, Result, Ok, Err, if◌then◌else◌}
+use Rattle.plain_types.specs.Steps.{◌>>=◌, or_fault, by_option}
+use Rattle.row_values.specs.declared.schema.Column.{Column}
+use Rattle.row_values.specs.declared.partition.PartField.{PartField}
+use Rattle.avro_binary.specs.declared.schema.Field.{Field}
+use Rattle.avro_rows.specs.Sources.{has_id}
+use Rattle.manifest_files.specs.declared.field_type.FieldType.{FieldType}
+use Rattle.manifest_files.specs.declared.field_type.FieldType.TheVariants as type
+use Rattle.manifest_files.specs.declared.manifest_fault.ManifestFault.{ManifestFault}
+use Rattle.manifest_files.specs.declared.manifest_fault.ManifestFault.TheVariants as fault
+use Rattle.manifest_files.specs.declared.places.PairPlaces.{PairPlaces}
+use Rattle.manifest_files.specs.declared.places.PartPlace.{PartPlace}
+use Rattle.manifest_files.specs.declared.places.FilePlaces.{FilePlaces}
+use Rattle.manifest_files.specs.declared.places.EntryPlaces.{EntryPlaces}
+use Rattle.manifest_files.specs.declared.places.SummaryPlaces.{SummaryPlaces}
+use Rattle.manifest_files.specs.declared.places.RowPlaces.{RowPlaces}
+use Rattle.manifest_files.specs.FieldTypes.{has_type, has_items, record_fields, element_fields}
+use Rattle.manifest_files.specs.PartitionKinds.{kind_of_field, carries_part}
+
+-- the first field with the id, and its place
+unfoldable pub field_from : ℤ → ℕ → List Field → Option (ℕ × Field)
+field_from id place [] = None
+field_from id place (field ∷ fields) = if has_id id field then Some (place, field) else field_from id (place + 1) fields
+
+abbrev pub field_at : ℤ → List Field → Option (ℕ × Field)
+field_at id fields = field_from id 0 fields
+
+abbrev pub typed : FieldType → ℤ → ℕ × Field → Result ℕ ManifestFault
+typed t id found = if has_type t found.1.schema then Ok found.0 else Err (fault.Kind id)
+
+-- the place of a field that every file has
+abbrev pub needed : FieldType → ℤ → List Field → Result ℕ ManifestFault
+needed t id fields = or_fault (fault.Field id) (field_at id fields) >>= typed t id
+
+-- the place of a field that a file may lack
+abbrev pub optional : FieldType → ℤ → List Field → Result (Option ℕ) ManifestFault
+optional t id fields = by_option (field_at id fields) (λ found. typed t id found >>= λ place. Ok (Some place)) (Ok None)
+
+-- the place of an array of this type
+abbrev pub optional_items : FieldType → ℤ → List Field → Result (Option ℕ) ManifestFault
+optional_items t id fields = by_option (field_at id fields) (λ found. if has_items t found.1.schema then Ok (Some found.0) else Err (fault.Kind id)) (Ok None)
+
+-- the fields of the record, or of the array's records, that stand under the id
+abbrev pub fields_under : ℤ → List Field → List Field
+fields_under id fields = by_option (field_at id fields) (λ found. record_fields found.1.schema) []
+
+abbrev pub fields_of_items : ℤ → List Field → List Field
+fields_of_items id fields = by_option (field_at id fields) (λ found. element_fields found.1.schema) []
+
+abbrev pub typed_at : FieldType → ℤ → List Field → Option ℕ
+typed_at t id fields = option_and_then (λ found. if has_type t found.1.schema then Some found.0 else None) (field_at id fields)
+
+-- no map
+abbrev pub no_pairs : PairPlaces
+no_pairs = record { place = None; key = 0; value = 0 }
+
+abbrev pub pairs_in : FieldType → ℤ → ℤ → ℕ → List Field → Option PairPlaces
+pairs_in t key value place fields = option_and_then (λ k. option_map (λ v. record { place = Some place; key = k; value = v }) (typed_at t value fields)) (typed_at type.Int key fields)
+
+-- A map with whole numbers as keys is an array of records with a key and a value.
+abbrev pub pairs : FieldType → ℤ → ℤ → ℤ → List Field → Result PairPlaces ManifestFault
+pairs t id key value fields = by_option (field_at id fields) (λ found. or_fault (fault.Kind id) (pairs_in t key value found.0 (element_fields found.1.schema))) (Ok no_pairs)
+
+-- the place of a partition field, whose type carries its kind
+abbrev pub part_place : List Column → List Field → PartField → Result PartPlace ManifestFault
+part_place columns fields part = or_fault (fault.Field part.field) (field_at part.field fields) >>= λ found. if carries_part (kind_of_field columns part) found.1.schema then Ok (record { field = part.field; kind = kind_of_field columns part; place = found.0 }) else Err (fault.Kind part.field)
+
+-- the places of the fields of a spec, behind those that are found
+unfoldable pub part_places : List Column → List Field → List PartPlace → List PartField → Result (List PartPlace) ManifestFault
+part_places columns fields earlier [] = Ok earlier
+part_places columns fields earlier (part ∷ parts) = part_place columns fields part >>= λ place. part_places columns fields (earlier ++ place ∷ []) parts
+
+-- the fields of `data_file`
+unfoldable pub file_places : List Column → List PartField → List Field → Result FilePlaces ManifestFault
+file_places columns parts fields = do
+  content ← optional type.Int (pos 134) fields
+  path ← needed type.Text (pos 100) fields
+  format ← needed type.Text (pos 101) fields
+  partition ← needed type.Record (pos 102) fields
+  part_fields ← part_places columns (fields_under (pos 102) fields) [] parts
+  count ← needed type.Long (pos 103) fields
+  size ← needed type.Long (pos 104) fields
+  values ← pairs type.Long (pos 109) (pos 119) (pos 120) fields
+  nulls ← pairs type.Long (pos 110) (pos 121) (pos 122) fields
+  lower ← pairs type.Bytes (pos 125) (pos 126) (pos 127) fields
+  upper ← pairs type.Bytes (pos 128) (pos 129) (pos 130) fields
+  key ← optional type.Bytes (pos 131) fields
+  equality_ids ← optional_items type.Int (pos 135) fields
+  referenced ← optional type.Text (pos 143) fields
+  Ok (record { content = content; path = path; format = format; partition = partition; part_fields = part_fields; count = count; size = size; values = values; nulls = nulls; lower = lower; upper = upper; key = key; equality_ids = equality_ids; referenced = referenced })
+
+-- the fields of `manifest_entry`
+unfoldable pub entry_places : List Column → List PartField → List Field → Result EntryPlaces ManifestFault
+entry_places columns parts fields = do
+  status ← needed type.Int (pos 0) fields
+  snapshot ← optional type.Long (pos 1) fields
+  seq ← optional type.Long (pos 3) fields
+  file_seq ← optional type.Long (pos 4) fields
+  data_file ← needed type.Record (pos 2) fields
+  file ← file_places columns parts (fields_under (pos 2) fields)
+  Ok (record { status = status; snapshot = snapshot; seq = seq; file_seq = file_seq; data_file = data_file; file = file })
+
+abbrev pub no_summaries : SummaryPlaces
+no_summaries = record { place = None; contains_null = 0; lower = None; upper = None }
+
+-- the fields of `field_summary`
+unfoldable pub summary_fields : ℕ → List Field → Result SummaryPlaces ManifestFault
+summary_fields place fields = do
+  contains_null ← needed type.Boolean (pos 509) fields
+  lower ← optional type.Bytes (pos 510) fields
+  upper ← optional type.Bytes (pos 511) fields
+  Ok (record { place = Some place; contains_null = contains_null; lower = lower; upper = upper })
+
+abbrev pub summaries_at : Option ℕ → List Field → Result SummaryPlaces ManifestFault
+summaries_at None fields = Ok no_summaries
+summaries_at (Some place) fields = summary_fields place fields
+
+unfoldable pub summary_places : List Field → Result SummaryPlaces ManifestFault
+summary_places fields = optional_items type.Record (pos 507) fields >>= λ place. summaries_at place (fields_of_items (pos 507) fields)
+
+-- the fields of `manifest_file`
+unfoldable pub row_places : List Field → Result RowPlaces ManifestFault
+row_places fields = do
+  path ← needed type.Text (pos 500) fields
+  file_length ← optional type.Long (pos 501) fields
+  spec ← needed type.Int (pos 502) fields
+  content ← needed type.Int (pos 517) fields
+  seq ← needed type.Long (pos 515) fields
+  min_seq ← needed type.Long (pos 516) fields
+  snapshot ← needed type.Long (pos 503) fields
+  added_files ← optional type.Int (pos 504) fields
+  existing_files ← optional type.Int (pos 505) fields
+  deleted_files ← optional type.Int (pos 506) fields
+  added_rows ← optional type.Long (pos 512) fields
+  existing_rows ← optional type.Long (pos 513) fields
+  deleted_rows ← optional type.Long (pos 514) fields
+  summaries ← summary_places fields
+  key ← optional type.Bytes (pos 519) fields
+  Ok (record { path = path; file_length = file_length; spec = spec; content = content; seq = seq; min_seq = min_seq; snapshot = snapshot; added_files = added_files; existing_files = existing_files; deleted_files = deleted_files; added_rows = added_rows; existing_rows = existing_rows; deleted_rows = deleted_rows; summaries = summaries; key = key })

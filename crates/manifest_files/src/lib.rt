@@ -1,0 +1,19 @@
+//! Reads manifest lists and manifests: the rows of a list, and the entries of a manifest with the numbers that they
+//! inherit from its row.
+//!
+//! What is read is exactly what `specs/Lists.antt` and `specs/Entries.antt` say. Where the fields stand in the records is
+//! settled once, with the faults of the file's schema in the order of the fields; then each record gives a row or an
+//! entry, or the first fault.
+#![tactic(auto)]
+
+mod entry;
+mod field_type;
+mod known_column;
+mod manifest_fault;
+mod manifest_row;
+mod numbers;
+mod places;
+
+pub use entry::{Content, Entry};
+pub use manifest_fault::ManifestFault;
+pub use manifest_row::{ManifestContent, ManifestRow};

@@ -1,0 +1,70 @@
+//! Whole numbers of 4 or 8 bytes, the lowest byte first.
+ghost use Rattle.std.specs.Prelude.{◌≡◌, ◌+◌, ◌*◌, ◌^◌, ◌<◌};
+ghost use Rattle.number_bytes.specs.LittleEndian.{with_sign, int_of, long_of};
+
+/// The number of 32 bits that stands for this one.
+fn with_sign_32(number: u32) -> i32
+    ensures { result ≡ with_sign (2 ^ 31) number }
+{
+    if number < 0x8000_0000 {
+        number as i32
+    } else {
+        (i64::from(number) - 0x1_0000_0000) as i32
+    }
+}
+
+/// The number of 64 bits that stands for this one.
+fn with_sign_64(number: u64) -> i64
+    ensures { result ≡ with_sign (2 ^ 63) number }
+{
+    if number < 0x8000_0000_0000_0000 {
+        number as i64
+    } else {
+        (i128::from(number) - 0x1_0000_0000_0000_0000) as i64
+    }
+}
+
+/// The number of these two bytes.
+fn half_word(low: u8, high: u8) -> u32
+    ensures value { result ≡ low + 256 * high }
+    ensures bound { result < 65536 }
+{
+    u32::from(low) + 256 * u32::from(high)
+}
+
+/// The number of these four bytes.
+fn word(a: u8, b: u8, c: u8, d: u8) -> u32
+    ensures { result ≡ a + 256 * (b + 256 * (c + 256 * d)) }
+{
+    half_word(a, b) + 65536 * half_word(c, d)
+}
+
+/// The number of these two words.
+fn double_word(low: u32, high: u32) -> u64
+    ensures { result ≡ low + 4294967296 * high }
+{
+    u64::from(low) + 4294967296 * u64::from(high)
+}
+
+/// The whole number that four bytes are in little-endian two's complement.
+pub fn int_of(bytes: &[u8]) -> Option<i32>
+    ensures { result ≡ int_of bytes.now }
+{
+    match bytes {
+        [a, b, c, d] => Some(with_sign_32(word(*a, *b, *c, *d))),
+        _ => None,
+    }
+}
+
+/// The whole number that eight bytes are in little-endian two's complement.
+pub fn long_of(bytes: &[u8]) -> Option<i64>
+    ensures { result ≡ long_of bytes.now }
+{
+    match bytes {
+        [a, b, c, d, e, f, g, h] => Some(with_sign_64(double_word(
+            word(*a, *b, *c, *d),
+            word(*e, *f, *g, *h),
+        ))),
+        _ => None,
+    }
+}
