@@ -1,9 +1,15 @@
 //! The versions of a table, as a store holds them.
 #![tactic(auto)]
 
+mod files;
+mod live_set;
+mod load_fault;
 mod paths;
 mod version;
 
+pub use files::{read_data_file_at, read_list_at, read_manifest_at};
+pub use live_set::{BranchState, LiveSet};
+pub use load_fault::LoadFault;
 pub use paths::name_of;
 pub use version::{current_version, version_name};
 

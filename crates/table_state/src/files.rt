@@ -1,0 +1,228 @@
+// One file of a table at a time.
+ghost use Rattle.std.specs.Prelude.{◌≡◌, ◌≢◌, ◌<◌, Ok, Err, IfOk, IfErr, IsErrOf};
+ghost use Rattle.std.specs.Option.{ForSome, option_copied};
+ghost use Rattle.plain_types.specs.Causes.{HasCause};
+ghost use Rattle.table_metadata.specs.Metadata.{parts};
+ghost use Rattle.table_state.specs.Files.{bytes_under, current_schema, data_file_at, entries_in, file_at, list_at, list_in, manifest_at, rows_in, schema_with, spec_with};
+
+use crate::load_fault::{LoadFault, container_fault, manifest_fault, rows_fault};
+use crate::paths::name_of;
+use avro_container::read_container;
+use avro_rows::read_rows;
+use manifest_files::{Entry, ManifestFault, ManifestRow, read_list, read_manifest};
+use plain_types::{List, Text};
+use row_values::{Row, Spec, TableSchema};
+use std::alloc::Global;
+use store_core::{Blob, ReadAnswer, Store};
+use table_metadata::{Metadata, MetadataFault};
+
+// The bytes under a name of the store, which the table knows by this path.
+fn read_name<S: Store>(
+    alloc: Global,
+    store: &mut S,
+    path: &str,
+    name: &str,
+) -> Result<Blob, LoadFault>
+    ensures ok { IfOk result (λ bytes. ForSome (S.files store.old) (λ files. bytes_under path.now name.now files ≡ Ok bytes)) }
+    ensures err { IfErr result (λ f. f ≢ LoadFault.Store → f ≢ LoadFault.Memory → ForSome (S.files store.old) (λ files. bytes_under path.now name.now files ≡ Err f)) }
+    ensures files { S.files store.new ≡ S.files store.old }
+    ensures unsettled { IsErrOf result LoadFault.Store → 0 < S.unsettled store.new }
+    ensures cause { HasCause LoadFault.Store LoadFault.Memory (S.faults store.old) (S.faults store.new) result }
+{
+    match store.read(alloc, name) {
+        Ok(ReadAnswer::Found(bytes)) => Ok(bytes),
+        Ok(ReadAnswer::Missing) => Err(LoadFault::Missing(Text::copy_of(alloc, path)?)),
+        Err(fault) => Err(LoadFault::from(fault)),
+    }
+}
+
+// The bytes of a path.
+#[tactic(auto, unfolding(crate::specs::Files::file_at))]
+fn read_file<S: Store>(
+    alloc: Global,
+    store: &mut S,
+    table: &str,
+    location: &str,
+    path: &str,
+) -> Result<Blob, LoadFault>
+    ensures ok { IfOk result (λ bytes. ForSome (S.files store.old) (λ files. file_at table.now location.now path.now files ≡ Ok bytes)) }
+    ensures err { IfErr result (λ f. f ≢ LoadFault.Store → f ≢ LoadFault.Memory → ForSome (S.files store.old) (λ files. file_at table.now location.now path.now files ≡ Err f)) }
+    ensures files { S.files store.new ≡ S.files store.old }
+    ensures unsettled { IsErrOf result LoadFault.Store → 0 < S.unsettled store.new }
+    ensures cause { HasCause LoadFault.Store LoadFault.Memory (S.faults store.old) (S.faults store.new) result }
+{
+    match name_of(alloc, table, location, path)? {
+        Some(name) => read_name(alloc, store, path, name.as_str()),
+        None => Err(LoadFault::Outside(Text::copy_of(alloc, path)?)),
+    }
+}
+
+#[tactic(auto, unfolding(crate::specs::Files::spec_with))]
+fn spec_with(id: i32, specs: &[Spec]) -> Option<&Spec>
+    ensures { option_copied result ≡ spec_with id specs.now }
+{
+    let mut rest = specs;
+    while let [spec, after @ ..] = rest {
+        if spec.id == id {
+            return Some(spec);
+        }
+        rest = after;
+    }
+    None
+}
+
+#[tactic(auto, unfolding(crate::specs::Files::schema_with))]
+fn schema_with(id: i32, schemas: &[TableSchema]) -> Option<&TableSchema>
+    ensures { option_copied result ≡ schema_with id schemas.now }
+{
+    let mut rest = schemas;
+    while let [schema, after @ ..] = rest {
+        if schema.id == id {
+            return Some(schema);
+        }
+        rest = after;
+    }
+    None
+}
+
+// The current schema, which all metadata that was read has.
+fn current_schema(alloc: Global, metadata: &Metadata) -> Result<&TableSchema, LoadFault>
+    ensures ok { IfOk result (λ schema. current_schema (parts metadata.now) ≡ Ok schema.now) }
+    ensures err { IfErr result (λ f. f ≢ LoadFault.Store → f ≢ LoadFault.Memory → current_schema (parts metadata.now) ≡ Err f) }
+    ensures inside { IsErrOf result LoadFault.Store → ⊥ }
+{
+    match schema_with(metadata.current_schema, metadata.schemas.as_slice()) {
+        Some(schema) => Ok(schema),
+        None => {
+            let key = Text::copy_of(alloc, "current-schema-id")?;
+            Err(LoadFault::Metadata(MetadataFault::Shape(key)))
+        }
+    }
+}
+
+fn list_in(alloc: Global, path: &str, bytes: &[u8]) -> Result<List<ManifestRow>, LoadFault>
+    ensures ok { IfOk result (λ rows. list_in path.now bytes.now ≡ Ok rows) }
+    ensures err { IfErr result (λ f. f ≢ LoadFault.Store → f ≢ LoadFault.Memory → list_in path.now bytes.now ≡ Err f) }
+    ensures inside { IsErrOf result LoadFault.Store → ⊥ }
+{
+    match read_list(alloc, bytes) {
+        Ok(rows) => Ok(rows),
+        Err(fault) => Err(manifest_fault(Text::copy_of(alloc, path)?, fault)),
+    }
+}
+
+/// The rows of the manifest list with this path.
+#[tactic(auto, unfolding(crate::specs::Files::list_at))]
+pub fn read_list_at<S: Store>(
+    alloc: Global,
+    store: &mut S,
+    table: &str,
+    metadata: &Metadata,
+    path: &str,
+) -> Result<List<ManifestRow>, LoadFault>
+    ensures ok { IfOk result (λ rows. ForSome (S.files store.old) (λ files. list_at table.now (parts metadata.now) path.now files ≡ Ok rows)) }
+    ensures err { IfErr result (λ f. f ≢ LoadFault.Store → f ≢ LoadFault.Memory → ForSome (S.files store.old) (λ files. list_at table.now (parts metadata.now) path.now files ≡ Err f)) }
+    ensures files { S.files store.new ≡ S.files store.old }
+    ensures unsettled { IsErrOf result LoadFault.Store → 0 < S.unsettled store.new }
+    ensures cause { HasCause LoadFault.Store LoadFault.Memory (S.faults store.old) (S.faults store.new) result }
+{
+    match read_file(alloc, store, table, metadata.location.as_str(), path) {
+        Ok(bytes) => list_in(alloc, path, bytes.as_slice()),
+        Err(fault) => Err(fault),
+    }
+}
+
+#[tactic(auto, unfolding(crate::specs::Files::entries_in))]
+fn entries_in(
+    alloc: Global,
+    metadata: &Metadata,
+    row: &ManifestRow,
+    bytes: &[u8],
+) -> Result<List<Entry>, LoadFault>
+    ensures ok { IfOk result (λ entries. entries_in (parts metadata.now) row.now bytes.now ≡ Ok entries) }
+    ensures err { IfErr result (λ f. f ≢ LoadFault.Store → f ≢ LoadFault.Memory → entries_in (parts metadata.now) row.now bytes.now ≡ Err f) }
+    ensures inside { IsErrOf result LoadFault.Store → ⊥ }
+{
+    let Some(spec) = spec_with(row.partition_spec_id, metadata.specs.as_slice()) else {
+        let path = Text::copy_of(alloc, row.manifest_path.as_str())?;
+        return Err(LoadFault::Manifest(path, ManifestFault::Spec(row.partition_spec_id)));
+    };
+    let schema = current_schema(alloc, metadata)?;
+    match read_manifest(alloc, bytes, row, spec, schema) {
+        Ok(entries) => Ok(entries),
+        Err(fault) => {
+            let path = Text::copy_of(alloc, row.manifest_path.as_str())?;
+            Err(manifest_fault(path, fault))
+        }
+    }
+}
+
+/// The entries of the manifest that a row of a list names, with the numbers that they inherit.
+#[tactic(auto, unfolding(crate::specs::Files::manifest_at))]
+pub fn read_manifest_at<S: Store>(
+    alloc: Global,
+    store: &mut S,
+    table: &str,
+    metadata: &Metadata,
+    row: &ManifestRow,
+) -> Result<List<Entry>, LoadFault>
+    ensures ok { IfOk result (λ entries. ForSome (S.files store.old) (λ files. manifest_at table.now (parts metadata.now) row.now files ≡ Ok entries)) }
+    ensures err { IfErr result (λ f. f ≢ LoadFault.Store → f ≢ LoadFault.Memory → ForSome (S.files store.old) (λ files. manifest_at table.now (parts metadata.now) row.now files ≡ Err f)) }
+    ensures files { S.files store.new ≡ S.files store.old }
+    ensures unsettled { IsErrOf result LoadFault.Store → 0 < S.unsettled store.new }
+    ensures cause { HasCause LoadFault.Store LoadFault.Memory (S.faults store.old) (S.faults store.new) result }
+{
+    match read_file(
+        alloc,
+        store,
+        table,
+        metadata.location.as_str(),
+        row.manifest_path.as_str(),
+    ) {
+        Ok(bytes) => entries_in(alloc, metadata, row, bytes.as_slice()),
+        Err(fault) => Err(fault),
+    }
+}
+
+#[tactic(auto, unfolding(crate::specs::Files::rows_in))]
+fn rows_in(
+    alloc: Global,
+    metadata: &Metadata,
+    path: &str,
+    bytes: &[u8],
+) -> Result<List<Row>, LoadFault>
+    ensures ok { IfOk result (λ rows. rows_in (parts metadata.now) path.now bytes.now ≡ Ok rows) }
+    ensures err { IfErr result (λ f. f ≢ LoadFault.Store → f ≢ LoadFault.Memory → rows_in (parts metadata.now) path.now bytes.now ≡ Err f) }
+    ensures inside { IsErrOf result LoadFault.Store → ⊥ }
+{
+    let container = match read_container(alloc, bytes) {
+        Ok(container) => container,
+        Err(fault) => return Err(container_fault(Text::copy_of(alloc, path)?, fault)),
+    };
+    let schema = current_schema(alloc, metadata)?;
+    match read_rows(alloc, &container, schema) {
+        Ok(rows) => Ok(rows),
+        Err(fault) => Err(rows_fault(Text::copy_of(alloc, path)?, fault)),
+    }
+}
+
+/// The rows of the data file with this path, in the columns of the current schema.
+#[tactic(auto, unfolding(crate::specs::Files::data_file_at))]
+pub fn read_data_file_at<S: Store>(
+    alloc: Global,
+    store: &mut S,
+    table: &str,
+    metadata: &Metadata,
+    path: &str,
+) -> Result<List<Row>, LoadFault>
+    ensures ok { IfOk result (λ rows. ForSome (S.files store.old) (λ files. data_file_at table.now (parts metadata.now) path.now files ≡ Ok rows)) }
+    ensures err { IfErr result (λ f. f ≢ LoadFault.Store → f ≢ LoadFault.Memory → ForSome (S.files store.old) (λ files. data_file_at table.now (parts metadata.now) path.now files ≡ Err f)) }
+    ensures files { S.files store.new ≡ S.files store.old }
+    ensures unsettled { IsErrOf result LoadFault.Store → 0 < S.unsettled store.new }
+    ensures cause { HasCause LoadFault.Store LoadFault.Memory (S.faults store.old) (S.faults store.new) result }
+{
+    match read_file(alloc, store, table, metadata.location.as_str(), path) {
+        Ok(bytes) => rows_in(alloc, metadata, path, bytes.as_slice()),
+        Err(fault) => Err(fault),
+    }
+}

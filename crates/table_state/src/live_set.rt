@@ -1,0 +1,23 @@
+use manifest_files::{Entry, ManifestRow};
+use plain_types::List;
+
+/// The live entries of a snapshot.
+#[derive(Debug, PartialEq, Drop)]
+pub struct LiveSet {
+    pub data_files: List<Entry>,
+    pub deletes: List<Entry>,
+}
+
+/// A branch of a version.
+#[derive(Debug, PartialEq, Drop)]
+pub enum BranchState {
+    /// No branch has the name.
+    Absent,
+    /// `main`, without a snapshot.
+    Empty,
+    Head {
+        snapshot: i64,
+        manifests: List<ManifestRow>,
+        live: LiveSet,
+    },
+}
