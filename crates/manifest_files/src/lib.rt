@@ -8,10 +8,13 @@
 
 mod entry;
 mod field_type;
+mod finding;
 mod known_column;
+mod layout;
 mod manifest_fault;
 mod manifest_row;
 mod numbers;
+mod partition_kinds;
 mod places;
 
 pub use entry::{Content, Entry};
