@@ -30,6 +30,7 @@ use Rattle.manifest_files.specs.declared.places.FilePlaces.{FilePlaces}
 use Rattle.manifest_files.specs.declared.places.EntryPlaces.{EntryPlaces}
 use Rattle.manifest_files.specs.Datums.{present, present_at, present_in, int_in, long_in, text_in, items_at, as_text, natural_of}
 use Rattle.manifest_files.specs.Inheritance.{numbered}
+use Rattle.manifest_files.specs.Needed.{needed_text, needed_count}
 use Rattle.manifest_files.specs.Places.{entry_places}
 use Rattle.manifest_files.specs.Statistics.{known_columns, are_pairs, has_twice, stats_from}
 
@@ -55,12 +56,6 @@ content_of n = if int_eq n (pos 0) then Ok content.Data else if int_eq n (pos 1)
 -- a file is one of data where nothing is said
 abbrev pub content_at : Option ℕ → List Datum → Result Content ManifestFault
 content_at place values = by_option (option_and_then int_in (present_at values place)) content_of (Ok content.Data)
-
-abbrev pub needed_text : ℤ → ℕ → List Datum → Result (List ℕ) ManifestFault
-needed_text id place values = or_fault (fault.Kind id) (option_and_then as_text (option_and_then text_in (present values place)))
-
-abbrev pub needed_count : ℤ → ℕ → List Datum → Result ℕ ManifestFault
-needed_count id place values = or_fault (fault.Kind id) (option_and_then natural_of (option_and_then long_in (present values place)))
 
 -- `AVRO`, in any case
 abbrev pub is_avro : List ℕ → Bool
