@@ -13,6 +13,7 @@ mod finding;
 mod known_column;
 mod layout;
 mod list;
+mod manifest;
 mod manifest_fault;
 mod manifest_row;
 mod needed;
@@ -23,5 +24,6 @@ mod statistics;
 
 pub use entry::{Content, Entry};
 pub use list::read_list;
+pub use manifest::read_manifest;
 pub use manifest_fault::ManifestFault;
 pub use manifest_row::{ManifestContent, ManifestRow};
