@@ -21,6 +21,8 @@ mod numbers;
 mod partition_kinds;
 mod places;
 mod statistics;
+#[cfg(test)]
+mod tests;
 
 pub use entry::{Content, Entry};
 pub use list::read_list;
