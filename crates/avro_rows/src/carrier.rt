@@ -7,7 +7,7 @@ ghost use Rattle.avro_rows.specs.Carrier.{is_null_type, is_instant_type, is_deci
 use avro_binary::{Logical, Schema};
 use row_values::Kind;
 
-fn is_null_type(schema: &Schema) -> bool
+pub fn is_null_type(schema: &Schema) -> bool
     ensures { result ≡ is_null_type (out-Schema schema.now) }
 {
     match schema {

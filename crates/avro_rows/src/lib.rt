@@ -15,7 +15,7 @@ mod tests;
 mod value;
 
 pub use avro_container::Container;
-pub use carrier::carries;
+pub use carrier::{carries, is_null_type};
 pub use laws::{columns_are_read_each_for_itself, rows_are_of_their_columns};
 pub use reading::{read_rows, values_of};
 pub use row_fault::RowFault;

@@ -10,6 +10,7 @@ use Rattle.row_values.specs.declared.value.Value.{Value}
 use Rattle.row_values.specs.declared.value.Value.TheVariants as value
 use Rattle.row_values.specs.declared.schema.TableSchema.{TableSchema}
 use Rattle.row_values.specs.declared.partition.Spec.{Spec}
+use Rattle.column_bounds.specs.declared.stats.Stats.{Stats}
 use Rattle.avro_binary.specs.declared.datum.Datum.{Datum}
 use Rattle.avro_container.specs.Container.{container_of}
 use Rattle.avro_rows.specs.DatumValue.{value_of}
@@ -23,13 +24,15 @@ use Rattle.manifest_files.specs.declared.known_column.KnownColumn.{KnownColumn}
 use Rattle.manifest_files.specs.declared.manifest_fault.ManifestFault.{ManifestFault}
 use Rattle.manifest_files.specs.declared.manifest_fault.ManifestFault.TheVariants as fault
 use Rattle.manifest_files.specs.declared.manifest_row.ManifestRow.{ManifestRow}
+use Rattle.manifest_files.specs.declared.numbers.Numbers.{Numbers}
 use Rattle.manifest_files.specs.declared.numbers.RawNumbers.{RawNumbers}
 use Rattle.manifest_files.specs.declared.places.PairPlaces.{PairPlaces}
 use Rattle.manifest_files.specs.declared.places.PartPlace.{PartPlace}
 use Rattle.manifest_files.specs.declared.places.FilePlaces.{FilePlaces}
 use Rattle.manifest_files.specs.declared.places.EntryPlaces.{EntryPlaces}
-use Rattle.manifest_files.specs.Datums.{present, present_at, present_in, int_in, long_in, text_in, items_at, as_text, natural_of}
+use Rattle.manifest_files.specs.Datums.{present, present_at, present_in, int_in, long_in, text_in, items_at, as_text}
 use Rattle.manifest_files.specs.Inheritance.{numbered}
+use Rattle.manifest_files.specs.Needed.{needed_text, needed_count}
 use Rattle.manifest_files.specs.Places.{entry_places}
 use Rattle.manifest_files.specs.Statistics.{known_columns, are_pairs, has_twice, stats_from}
 
@@ -56,12 +59,6 @@ content_of n = if int_eq n (pos 0) then Ok content.Data else if int_eq n (pos 1)
 abbrev pub content_at : Option ℕ → List Datum → Result Content ManifestFault
 content_at place values = by_option (option_and_then int_in (present_at values place)) content_of (Ok content.Data)
 
-abbrev pub needed_text : ℤ → ℕ → List Datum → Result (List ℕ) ManifestFault
-needed_text id place values = or_fault (fault.Kind id) (option_and_then as_text (option_and_then text_in (present values place)))
-
-abbrev pub needed_count : ℤ → ℕ → List Datum → Result ℕ ManifestFault
-needed_count id place values = or_fault (fault.Kind id) (option_and_then natural_of (option_and_then long_in (present values place)))
-
 -- `AVRO`, in any case
 abbrev pub is_avro : List ℕ → Bool
 is_avro (a ∷ v ∷ r ∷ o ∷ []) = eq_ignore_ascii_case a 65 && eq_ignore_ascii_case v 86 && eq_ignore_ascii_case r 82 && eq_ignore_ascii_case o 79
@@ -84,10 +81,13 @@ part_values values earlier (part ∷ parts) = part_value values part >>= λ v. p
 unfoldable pub partition_at : FilePlaces → List Datum → Result (List Value) ManifestFault
 partition_at places values = or_fault (fault.Kind (pos 102)) (present values places.partition) >>= λ datum. part_values (values_of datum) [] places.part_fields
 
+abbrev pub id_in : Datum → Result ℤ ManifestFault
+id_in datum = or_fault (fault.Kind (pos 135)) (option_and_then int_in (present_in datum))
+
 -- whole numbers, behind those that are read
 unfoldable pub ids_from : List ℤ → List Datum → Result (List ℤ) ManifestFault
 ids_from earlier [] = Ok earlier
-ids_from earlier (datum ∷ datums) = or_fault (fault.Kind (pos 135)) (option_and_then int_in (present_in datum)) >>= λ id. ids_from (earlier ++ id ∷ []) datums
+ids_from earlier (datum ∷ datums) = id_in datum >>= λ id. ids_from (earlier ++ id ∷ []) datums
 
 abbrev pub whole_map : ℤ → PairPlaces → List Datum → Result ⊤ ManifestFault
 whole_map id places values = fault_if (fault.Kind id) (not (are_pairs places (items_at values places.place)))
@@ -117,15 +117,21 @@ file_parts places values = do
   equality_ids ← ids_from [] (items_at values places.equality_ids)
   Ok (record { content = content; path = path; is_avro = is_avro; partition = partition; count = count; size = size; equality_ids = equality_ids; referenced = option_and_then as_text (option_and_then text_in (present_at values places.referenced)) })
 
+abbrev pub known_format : ℕ → FileParts → Result ⊤ ManifestFault
+known_format status parts = fault_if (fault.Format parts.path) (is_live status && not parts.is_avro)
+
 -- what no entry may have: a live file of another format, an encrypted file, a key twice
 unfoldable pub allowed : ℕ → FilePlaces → FileParts → List Datum → Result ⊤ ManifestFault
 allowed status places parts values = do
-  _ ← fault_if (fault.Format parts.path) (is_live status && not parts.is_avro)
+  _ ← known_format status parts
   _ ← fault_if (fault.Key (pos 131)) (is_some (present_at values places.key))
   _ ← single_keys (pos 109) places.values values
   _ ← single_keys (pos 110) places.nulls values
   _ ← single_keys (pos 125) places.lower values
   single_keys (pos 128) places.upper values
+
+abbrev pub whole_entry : ℕ → Numbers → ℤ → FileParts → Stats → Entry
+whole_entry status numbers spec parts stats = record { status = status; snapshot = numbers.snapshot; seq = numbers.seq; file_seq = numbers.file_seq; content = parts.content; path = parts.path; spec = spec; partition = parts.partition; count = parts.count; size = parts.size; stats = stats; equality_ids = parts.equality_ids; referenced = parts.referenced }
 
 unfoldable pub entry_of : EntryPlaces → ManifestRow → ℤ → List KnownColumn → Datum → Result Entry ManifestFault
 entry_of places row spec columns datum = do
@@ -134,7 +140,7 @@ entry_of places row spec columns datum = do
   file ← or_fault (fault.Kind (pos 2)) (present (values_of datum) places.data_file)
   parts ← file_parts places.file (values_of file)
   _ ← allowed status places.file parts (values_of file)
-  Ok (record { status = status; snapshot = numbers.snapshot; seq = numbers.seq; file_seq = numbers.file_seq; content = parts.content; path = parts.path; spec = spec; partition = parts.partition; count = parts.count; size = parts.size; stats = record { columns = stats_from places.file (values_of file) [] columns }; equality_ids = parts.equality_ids; referenced = parts.referenced })
+  Ok (whole_entry status numbers spec parts (record { columns = stats_from places.file (values_of file) [] columns }))
 
 -- the entries that these records are, behind those that are read
 unfoldable pub entries_from : EntryPlaces → ManifestRow → ℤ → List KnownColumn → List Entry → List Datum → Result (List Entry) ManifestFault

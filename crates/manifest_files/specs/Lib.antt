@@ -3,6 +3,7 @@ pub mod Entries
 pub mod FieldTypes
 pub mod Inheritance
 pub mod Lists
+pub mod Needed
 pub mod PartitionKinds
 pub mod Places
 pub mod Statistics

@@ -16,17 +16,12 @@ use Rattle.manifest_files.specs.declared.manifest_fault.ManifestFault.TheVariant
 use Rattle.manifest_files.specs.declared.manifest_row.ManifestContent.{ManifestContent}
 use Rattle.manifest_files.specs.declared.manifest_row.ManifestContent.TheVariants as content
 use Rattle.manifest_files.specs.declared.manifest_row.ManifestRow.{ManifestRow}
+use Rattle.manifest_files.specs.declared.manifest_row.RowHead.{RowHead}
 use Rattle.manifest_files.specs.declared.places.SummaryPlaces.{SummaryPlaces}
 use Rattle.manifest_files.specs.declared.places.RowPlaces.{RowPlaces}
 use Rattle.manifest_files.specs.Datums.{present, present_at, present_in, int_in, long_in, boolean_in, bytes_in, items_at}
-use Rattle.manifest_files.specs.Entries.{needed_text}
+use Rattle.manifest_files.specs.Needed.{needed_text, needed_int, needed_long}
 use Rattle.manifest_files.specs.Places.{row_places}
-
-abbrev pub needed_int : ℤ → ℕ → List Datum → Result ℤ ManifestFault
-needed_int id place values = or_fault (fault.Kind id) (option_and_then int_in (present values place))
-
-abbrev pub needed_long : ℤ → ℕ → List Datum → Result ℤ ManifestFault
-needed_long id place values = or_fault (fault.Kind id) (option_and_then long_in (present values place))
 
 -- the number, unless it is negative
 abbrev pub not_negative : ℤ → Option ℤ
@@ -56,8 +51,9 @@ unfoldable pub summaries_from : SummaryPlaces → List Summary → List Datum �
 summaries_from places earlier [] = Ok earlier
 summaries_from places earlier (datum ∷ datums) = summary_of places datum >>= λ summary. summaries_from places (earlier ++ summary ∷ []) datums
 
-unfoldable pub row_of : RowPlaces → List Datum → Result ManifestRow ManifestFault
-row_of places values = do
+-- what each row has
+unfoldable pub row_head : RowPlaces → List Datum → Result RowHead ManifestFault
+row_head places values = do
   path ← needed_text (pos 500) places.path values
   spec ← needed_int (pos 502) places.spec values
   number ← needed_int (pos 517) places.content values
@@ -65,9 +61,18 @@ row_of places values = do
   seq ← needed_long (pos 515) places.seq values
   min_seq ← needed_long (pos 516) places.min_seq values
   snapshot ← needed_long (pos 503) places.snapshot values
+  Ok (record { path = path; spec = spec; content = content; seq = seq; min_seq = min_seq; snapshot = snapshot })
+
+-- the row, with what it may lack
+abbrev pub whole_row : RowPlaces → List Datum → RowHead → List Summary → ManifestRow
+whole_row places values head partitions = record { manifest_path = head.path; manifest_length = option_and_then long_in (present_at values places.file_length); partition_spec_id = head.spec; content = head.content; sequence_number = head.seq; min_sequence_number = head.min_seq; added_snapshot_id = head.snapshot; added_files_count = file_count places.added_files values; existing_files_count = file_count places.existing_files values; deleted_files_count = file_count places.deleted_files values; added_rows_count = row_count places.added_rows values; existing_rows_count = row_count places.existing_rows values; deleted_rows_count = row_count places.deleted_rows values; partitions = partitions }
+
+unfoldable pub row_of : RowPlaces → List Datum → Result ManifestRow ManifestFault
+row_of places values = do
+  head ← row_head places values
   partitions ← summaries_from places.summaries [] (items_at values places.summaries.place)
   _ ← fault_if (fault.Key (pos 519)) (is_some (present_at values places.key))
-  Ok (record { manifest_path = path; manifest_length = option_and_then long_in (present_at values places.file_length); partition_spec_id = spec; content = content; sequence_number = seq; min_sequence_number = min_seq; added_snapshot_id = snapshot; added_files_count = file_count places.added_files values; existing_files_count = file_count places.existing_files values; deleted_files_count = file_count places.deleted_files values; added_rows_count = row_count places.added_rows values; existing_rows_count = row_count places.existing_rows values; deleted_rows_count = row_count places.deleted_rows values; partitions = partitions })
+  Ok (whole_row places values head partitions)
 
 -- the rows that these records are, behind those that are read
 unfoldable pub rows_from : RowPlaces → List ManifestRow → List Datum → Result (List ManifestRow) ManifestFault

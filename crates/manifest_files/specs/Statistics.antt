@@ -61,9 +61,12 @@ is_pair places pair = is_some (key_in places pair) && is_some (present (values_o
 abbrev pub are_pairs : PairPlaces → List Datum → Bool
 are_pairs places items = list_all (is_pair places) items
 
+abbrev pub any_key : PairPlaces → ℤ → List Datum → Bool
+any_key places key items = list_any (is_key places key) items
+
 abbrev pub has_key : PairPlaces → Option ℤ → List Datum → Bool
 has_key places None items = false
-has_key places (Some key) items = list_any (is_key places key) items
+has_key places (Some key) items = any_key places key items
 
 unfoldable pub has_twice : PairPlaces → List Datum → Bool
 has_twice places [] = false

@@ -6,14 +6,26 @@
 //! entry, or the first fault.
 #![tactic(auto)]
 
+mod datum_values;
 mod entry;
 mod field_type;
+mod finding;
 mod known_column;
+mod layout;
+mod list;
+mod manifest;
 mod manifest_fault;
 mod manifest_row;
+mod needed;
 mod numbers;
+mod partition_kinds;
 mod places;
+mod statistics;
+#[cfg(test)]
+mod tests;
 
 pub use entry::{Content, Entry};
+pub use list::read_list;
+pub use manifest::read_manifest;
 pub use manifest_fault::ManifestFault;
 pub use manifest_row::{ManifestContent, ManifestRow};

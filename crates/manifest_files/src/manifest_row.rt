@@ -30,3 +30,14 @@ pub struct ManifestRow {
     /// One for each field of the spec, whose bounds are bytes as the list has them; empty where the row has none.
     pub partitions: List<Summary>,
 }
+
+/// What each row has.
+#[derive(Debug, Drop)]
+pub struct RowHead {
+    pub path: Text,
+    pub spec: i32,
+    pub content: ManifestContent,
+    pub seq: i64,
+    pub min_seq: i64,
+    pub snapshot: i64,
+}

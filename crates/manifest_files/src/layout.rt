@@ -1,0 +1,206 @@
+//! The places of the fields of manifests and of lists, or the first fault in the order of the fields.
+ghost use Rattle.std.specs.Prelude.{◌≡◌, ◌≢◌, [], IfOk, IfErr, Ok, Err};
+ghost use Rattle.manifest_files.specs.Places.{part_place, part_places, file_places, entry_places, no_summaries, summary_fields, summaries_at, summary_places, row_places};
+
+use crate::ManifestFault;
+use crate::field_type::FieldType;
+use crate::finding::{
+    field_at, fields_of_items, fields_under, needed, optional, optional_items, pairs,
+};
+use crate::partition_kinds::{carries_part, kind_of_field};
+use crate::places::{EntryPlaces, FilePlaces, PartPlace, RowPlaces, SummaryPlaces};
+use avro_binary::Field;
+use row_values::{Column, List, PartField};
+use std::alloc::Global;
+
+/// The place of a partition field, whose type carries its kind.
+fn part_place(
+    columns: &[Column],
+    fields: &[Field],
+    part: &PartField,
+) -> Result<PartPlace, ManifestFault>
+    ensures { result ≡ part_place columns.now fields.now part.now }
+{
+    let kind = kind_of_field(columns, part);
+    match field_at(part.field, fields) {
+        Some((place, field)) => {
+            if carries_part(kind, &field.schema) {
+                Ok(PartPlace {
+                    field: part.field,
+                    kind,
+                    place,
+                })
+            } else {
+                Err(ManifestFault::Kind(part.field))
+            }
+        }
+        None => Err(ManifestFault::Field(part.field)),
+    }
+}
+
+/// The places of the fields of a spec.
+#[tactic(auto, unfolding(crate::specs::Places::part_places))]
+fn part_places(
+    alloc: Global,
+    columns: &[Column],
+    fields: &[Field],
+    parts: &[PartField],
+) -> Result<List<PartPlace>, ManifestFault>
+    ensures ok { IfOk result (λ places. part_places columns.now fields.now [] parts.now ≡ Ok places) }
+    ensures err { IfErr result (λ f. f ≢ ManifestFault.Memory → part_places columns.now fields.now [] parts.now ≡ Err f) }
+{
+    let mut places = Vec::new(alloc);
+    let mut rest = parts;
+    while let [part, after @ ..] = rest {
+        let place = part_place(columns, fields, part)?;
+        places.push(place)?;
+        rest = after;
+    }
+    Ok(List::from_vec(places))
+}
+
+/// The fields of `data_file`.
+#[tactic(auto, unfolding(crate::specs::Places::file_places))]
+fn file_places(
+    alloc: Global,
+    columns: &[Column],
+    parts: &[PartField],
+    fields: &[Field],
+) -> Result<FilePlaces, ManifestFault>
+    ensures ok { IfOk result (λ places. file_places columns.now parts.now fields.now ≡ Ok places) }
+    ensures err { IfErr result (λ f. f ≢ ManifestFault.Memory → file_places columns.now parts.now fields.now ≡ Err f) }
+{
+    let content = optional(FieldType::Int, 134, fields)?;
+    let path = needed(FieldType::Text, 100, fields)?;
+    let format = needed(FieldType::Text, 101, fields)?;
+    let partition = needed(FieldType::Record, 102, fields)?;
+    let part_fields = part_places(alloc, columns, fields_under(102, fields), parts)?;
+    let count = needed(FieldType::Long, 103, fields)?;
+    let size = needed(FieldType::Long, 104, fields)?;
+    let values = pairs(FieldType::Long, 109, 119, 120, fields)?;
+    let nulls = pairs(FieldType::Long, 110, 121, 122, fields)?;
+    let lower = pairs(FieldType::Bytes, 125, 126, 127, fields)?;
+    let upper = pairs(FieldType::Bytes, 128, 129, 130, fields)?;
+    let key = optional(FieldType::Bytes, 131, fields)?;
+    let equality_ids = optional_items(FieldType::Int, 135, fields)?;
+    let referenced = optional(FieldType::Text, 143, fields)?;
+    Ok(FilePlaces {
+        content,
+        path,
+        format,
+        partition,
+        part_fields,
+        count,
+        size,
+        values,
+        nulls,
+        lower,
+        upper,
+        key,
+        equality_ids,
+        referenced,
+    })
+}
+
+/// The fields of `manifest_entry`.
+#[tactic(auto, unfolding(crate::specs::Places::entry_places))]
+pub(crate) fn entry_places(
+    alloc: Global,
+    columns: &[Column],
+    parts: &[PartField],
+    fields: &[Field],
+) -> Result<EntryPlaces, ManifestFault>
+    ensures ok { IfOk result (λ places. entry_places columns.now parts.now fields.now ≡ Ok places) }
+    ensures err { IfErr result (λ f. f ≢ ManifestFault.Memory → entry_places columns.now parts.now fields.now ≡ Err f) }
+{
+    let status = needed(FieldType::Int, 0, fields)?;
+    let snapshot = optional(FieldType::Long, 1, fields)?;
+    let seq = optional(FieldType::Long, 3, fields)?;
+    let file_seq = optional(FieldType::Long, 4, fields)?;
+    let data_file = needed(FieldType::Record, 2, fields)?;
+    let file = file_places(alloc, columns, parts, fields_under(2, fields))?;
+    Ok(EntryPlaces {
+        status,
+        snapshot,
+        seq,
+        file_seq,
+        data_file,
+        file,
+    })
+}
+
+fn no_summaries() -> SummaryPlaces
+    ensures { result ≡ no_summaries }
+{
+    SummaryPlaces {
+        place: None,
+        contains_null: 0,
+        lower: None,
+        upper: None,
+    }
+}
+
+/// The fields of `field_summary`.
+#[tactic(auto, unfolding(crate::specs::Places::summary_fields))]
+fn summary_fields(place: usize, fields: &[Field]) -> Result<SummaryPlaces, ManifestFault>
+    ensures { result ≡ summary_fields place fields.now }
+{
+    let contains_null = needed(FieldType::Boolean, 509, fields)?;
+    let lower = optional(FieldType::Bytes, 510, fields)?;
+    let upper = optional(FieldType::Bytes, 511, fields)?;
+    Ok(SummaryPlaces {
+        place: Some(place),
+        contains_null,
+        lower,
+        upper,
+    })
+}
+
+#[tactic(auto, unfolding(crate::specs::Places::summary_places))]
+fn summary_places(fields: &[Field]) -> Result<SummaryPlaces, ManifestFault>
+    ensures { result ≡ summary_places fields.now }
+{
+    match optional_items(FieldType::Record, 507, fields)? {
+        Some(place) => summary_fields(place, fields_of_items(507, fields)),
+        None => Ok(no_summaries()),
+    }
+}
+
+/// The fields of `manifest_file`.
+#[tactic(auto, unfolding(crate::specs::Places::row_places))]
+pub(crate) fn row_places(fields: &[Field]) -> Result<RowPlaces, ManifestFault>
+    ensures { result ≡ row_places fields.now }
+{
+    let path = needed(FieldType::Text, 500, fields)?;
+    let file_length = optional(FieldType::Long, 501, fields)?;
+    let spec = needed(FieldType::Int, 502, fields)?;
+    let content = needed(FieldType::Int, 517, fields)?;
+    let seq = needed(FieldType::Long, 515, fields)?;
+    let min_seq = needed(FieldType::Long, 516, fields)?;
+    let snapshot = needed(FieldType::Long, 503, fields)?;
+    let added_files = optional(FieldType::Int, 504, fields)?;
+    let existing_files = optional(FieldType::Int, 505, fields)?;
+    let deleted_files = optional(FieldType::Int, 506, fields)?;
+    let added_rows = optional(FieldType::Long, 512, fields)?;
+    let existing_rows = optional(FieldType::Long, 513, fields)?;
+    let deleted_rows = optional(FieldType::Long, 514, fields)?;
+    let summaries = summary_places(fields)?;
+    let key = optional(FieldType::Bytes, 519, fields)?;
+    Ok(RowPlaces {
+        path,
+        file_length,
+        spec,
+        content,
+        seq,
+        min_seq,
+        snapshot,
+        added_files,
+        existing_files,
+        deleted_files,
+        added_rows,
+        existing_rows,
+        deleted_rows,
+        summaries,
+        key,
+    })
+}
