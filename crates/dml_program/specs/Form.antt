@@ -1,6 +1,7 @@
 -- The tables that are read so far: of format version 2, with columns of `long` and `string` in the current schema, specs
--- without fields, every property of writes at its default, no ref but `main`, within the limits, and without a snapshot.
-use Rattle.std.specs.Prelude.{ℕ, ℤ, pos, ◌^◌, Bool, true, false, not, ◌&&◌, ◌==◌, nat_eq, nat_lt, nat_le, int_lt, codes, List, length, is_some, Result, Ok, Err, if◌then◌else◌}
+-- without fields, every property of writes at its default, no ref but `main`, and within the limits; with data files
+-- alone.
+use Rattle.std.specs.Prelude.{ℕ, ℤ, pos, ◌^◌, Bool, true, false, not, ◌&&◌, ◌==◌, nat_eq, nat_lt, nat_le, int_lt, codes, List, length, if◌then◌else◌}
 use Rattle.std.specs.List.{list_all}
 use Rattle.std.specs.Ordering.{int_eq}
 use Rattle.std.specs.Cmp.Lexicographic.{pointwise}
@@ -9,8 +10,10 @@ use Rattle.row_values.specs.declared.kind.Kind.TheVariants as kind
 use Rattle.row_values.specs.declared.schema.TableSchema.{TableSchema}
 use Rattle.row_values.specs.declared.schema.Column.{Column}
 use Rattle.row_values.specs.declared.partition.Spec.{Spec}
-use Rattle.table_metadata.specs.Metadata.{Parts, metadata_of}
-use Rattle.table_metadata.specs.declared.metadata_fault.MetadataFault.{MetadataFault}
+use Rattle.manifest_files.specs.declared.manifest_row.ManifestContent.{ManifestContent}
+use Rattle.manifest_files.specs.declared.manifest_row.ManifestContent.TheVariants as content
+use Rattle.manifest_files.specs.declared.manifest_row.ManifestRow.{ManifestRow}
+use Rattle.table_metadata.specs.Metadata.{Parts}
 use Rattle.table_metadata.specs.declared.properties.Properties.{Properties}
 use Rattle.table_metadata.specs.declared.properties.WriteMode.{WriteMode}
 use Rattle.table_metadata.specs.declared.references.RefItem.{RefItem}
@@ -47,12 +50,12 @@ is_within_limits version p = nat_lt version (2 ^ 31) && int_lt p.last_sequence (
 abbrev pub has_form : ℕ → Parts → Bool
 has_form version p =
     is_within_limits version p && list_all (is_plain_schema p.current_schema) p.schemas && list_all is_unpartitioned p.specs && is_plain_writing p.properties && list_all is_main p.refs
-    && not (is_some p.current_snapshot)
 
-abbrev pub form_of : ℕ → Result Parts MetadataFault → Bool
-form_of version (Ok p) = has_form version p
-form_of version (Err fault) = false
+-- ---- manifests
 
--- the bytes of a version's metadata are of the form
-abbrev pub is_in_form : ℕ → List ℕ → Bool
-is_in_form version bytes = form_of version (metadata_of bytes)
+abbrev pub is_data_manifest_content : ManifestContent → Bool
+is_data_manifest_content content.Data = true
+is_data_manifest_content content.Deletes = false
+
+abbrev pub is_data_manifest : ManifestRow → Bool
+is_data_manifest row = is_data_manifest_content row.content

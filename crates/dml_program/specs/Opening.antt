@@ -1,41 +1,45 @@
--- What is wrong with a table, over the files of its store: the first fault, with its path.
-use Rattle.std.specs.Prelude.{◌≡◌, ℕ, if◌then◌else◌, List, Option, Some, None, false}
-use Rattle.std.specs.FinMap as map
-use Rattle.plain_types.specs.Steps.{by_option}
+-- What a table holds over the files of its store, or what is wrong with it, with a path.
+use Rattle.std.specs.Prelude.{◌≡◌, ℕ, List, Result, Err}
+use Rattle.plain_types.specs.Steps.{by_option, fault_as}
+use Rattle.row_values.specs.declared.value.Value.{Value}
 use Rattle.store_core.specs.Files.{Files}
-use Rattle.table_state.specs.Versions.{version_name, version_of}
+use Rattle.table_state.specs.Versions.{version_of}
+use Rattle.table_state.specs.declared.load_fault.LoadFault.{LoadFault}
+use Rattle.table_state.specs.declared.load_fault.LoadFault.TheVariants as load
 use Rattle.dml_program.specs.declared.status.TableKind.{TableKind}
 use Rattle.dml_program.specs.declared.status.TableKind.TheVariants.{NoVersion, Later}
 use Rattle.dml_program.specs.declared.status.Status.{Status}
 use Rattle.dml_program.specs.declared.status.Status.TheVariants as status
-use Rattle.table_metadata.specs.declared.metadata_fault.MetadataFault.{MetadataFault}
-use Rattle.table_metadata.specs.declared.metadata_fault.MetadataFault.TheVariants as fault
-use Rattle.dml_program.specs.Form.{is_in_form}
+use Rattle.dml_program.specs.PlainTable.{plain_version}
 
+-- what is wrong, and where
 abbrev pub Fault : Type 0
-Fault = Option (TableKind × List ℕ)
+Fault = TableKind × List ℕ
 
--- what is wrong with a version's metadata file, whose name and bytes these are
-abbrev pub metadata_fault : List ℕ → ℕ → Option (List ℕ) → Fault
-metadata_fault name version bytes = if by_option bytes (is_in_form version) false then None else Some (Later, name)
+-- the rows of `main` at the current version
+unfoldable pub table_rows : List ℕ → Files → Result (List (List Value)) Fault
+table_rows table files = by_option (version_of table files) (λ version. fault_as (λ path. (Later, path)) (plain_version table version files)) (Err (NoVersion, table))
 
--- what is wrong with a version
-abbrev pub version_fault : List ℕ → Files → ℕ → Fault
-version_fault table files version = metadata_fault (version_name table version) version (map.get files (version_name table version))
+-- the status of a call that stopped where this is wanted: it names the path of the first file out of form, unless the
+-- store failed or memory ran out
+abbrev pub Refuses : {A : Type 0} → Result A (List ℕ) → Status → Type 0
+Refuses wanted (status.TableBad kind path) = (kind ≡ Later) × (wanted ≡ Err path)
+Refuses wanted status.StoreFailed = Unit {0}
+Refuses wanted status.Memory = Unit {0}
+Refuses wanted status.Done = ⊥
+Refuses wanted status.Usage = ⊥
+Refuses wanted status.OutputFailed = ⊥
 
-unfoldable pub table_fault : List ℕ → Files → Fault
-table_fault table files = by_option (version_of table files) (version_fault table files) (Some (NoVersion, table))
+-- the same of a call that opens the table too
+abbrev pub RefusesTable : {A : Type 0} → Result A Fault → Status → Type 0
+RefusesTable wanted (status.TableBad kind path) = wanted ≡ Err (kind, path)
+RefusesTable wanted status.StoreFailed = Unit {0}
+RefusesTable wanted status.Memory = Unit {0}
+RefusesTable wanted status.Done = ⊥
+RefusesTable wanted status.Usage = ⊥
+RefusesTable wanted status.OutputFailed = ⊥
 
--- the status of a call that could not open a table whose first fault this is
-abbrev pub Refuses : Fault → Status → Type 0
-Refuses found status.Done = ⊥
-Refuses found status.Usage = ⊥
-Refuses found (status.TableBad kind path) = found ≡ Some (kind, path)
-Refuses found status.StoreFailed = Unit {0}
-Refuses found status.OutputFailed = ⊥
-Refuses found status.Memory = Unit {0}
-
--- a status of a call that could not open a table, whatever it tells of its files
+-- a status of a call that stopped before its end
 abbrev pub IsRefusal : Status → Type 0
 IsRefusal status.Done = ⊥
 IsRefusal status.Usage = ⊥
@@ -44,7 +48,8 @@ IsRefusal status.StoreFailed = Unit {0}
 IsRefusal status.OutputFailed = ⊥
 IsRefusal status.Memory = Unit {0}
 
--- the status of a call whose metadata, under this name, could not be read
-abbrev pub metadata_status : List ℕ → MetadataFault → Status
-metadata_status name fault.Memory = status.Memory
-metadata_status name other = status.TableBad Later name
+-- the status of a call that could not read the file with this path
+abbrev pub load_status : List ℕ → LoadFault → Status
+load_status path load.Store = status.StoreFailed
+load_status path load.Memory = status.Memory
+load_status path other = status.TableBad Later path

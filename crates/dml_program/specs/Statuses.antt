@@ -28,6 +28,14 @@ escaped_byte b = if b == 10 then 92 ∷ 110 ∷ [] else b ∷ []
 abbrev pub line : List ℕ → List ℕ
 line text = flat_map escaped_byte text ++ 10 ∷ []
 
+-- a row's line, which has its record
+abbrev pub row_line : List ℕ → List ℕ
+row_line text = codes "row " ++ line text
+
+-- the lines of records, in order
+abbrev pub row_lines : List (List ℕ) → List ℕ
+row_lines texts = flat_map row_line texts
+
 abbrev pub kind_text : TableKind → List ℕ
 kind_text NoVersion = codes "no-version"
 kind_text Later = codes "later"
@@ -40,8 +48,3 @@ fault_lines (TableBad kind path) = line (codes "fault table " ++ (kind_text kind
 fault_lines StoreFailed = line (codes "fault store")
 fault_lines OutputFailed = []
 fault_lines Memory = []
-
--- the status of a call whose report could not be written
-abbrev pub after_failed_output : Status → Status
-after_failed_output Done = OutputFailed
-after_failed_output status = status

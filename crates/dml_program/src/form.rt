@@ -2,8 +2,10 @@
 ghost use Rattle.std.specs.Prelude.{◌≡◌};
 ghost use Rattle.std.specs.List.{list_all};
 ghost use Rattle.table_metadata.specs.Metadata.{parts};
-ghost use Rattle.dml_program.specs.Form.{has_form, is_main, is_plain_column, is_plain_kind, is_plain_mode, is_plain_schema, is_plain_writing, is_unpartitioned, is_within_limits};
+ghost use Rattle.table_state.specs.Live.{is_data, is_data_content};
+ghost use Rattle.dml_program.specs.Form.{has_form, is_data_manifest, is_data_manifest_content, is_main, is_plain_column, is_plain_kind, is_plain_mode, is_plain_schema, is_plain_writing, is_unpartitioned, is_within_limits};
 
+use manifest_files::{Content, Entry, ManifestContent, ManifestRow};
 use row_values::{Column, Kind, Spec, TableSchema};
 use table_metadata::{Metadata, Properties, RefItem, WriteMode};
 
@@ -23,7 +25,6 @@ pub(crate) fn has_form(version: u32, metadata: &Metadata) -> bool
         && are_unpartitioned(metadata.specs.as_slice())
         && is_plain_writing(&metadata.properties)
         && are_main(metadata.refs.as_slice())
-        && metadata.current_snapshot.is_none()
 }
 
 fn is_within_limits(version: u32, metadata: &Metadata) -> bool
@@ -87,4 +88,30 @@ fn are_main(refs: &[RefItem]) -> bool
     ensures { result ≡ list_all is_main refs.now }
 {
     refs.iter().all(|item| item.name.as_str() == "main")
+}
+
+/// Whether all the manifests hold data files.
+pub(crate) fn are_data_manifests(rows: &[ManifestRow]) -> bool
+    ensures { result ≡ list_all is_data_manifest rows.now }
+{
+    rows.iter().all(|row| is_data_manifest(row.content))
+}
+
+fn is_data_manifest(content: ManifestContent) -> bool
+    ensures { result ≡ is_data_manifest_content content }
+{
+    matches!(content, ManifestContent::Data)
+}
+
+/// Whether all the entries are of data files.
+pub(crate) fn are_data_entries(entries: &[Entry]) -> bool
+    ensures { result ≡ list_all is_data entries.now }
+{
+    entries.iter().all(|entry| is_data(entry.content))
+}
+
+fn is_data(content: Content) -> bool
+    ensures { result ≡ is_data_content content }
+{
+    matches!(content, Content::Data)
 }

@@ -1,99 +1,322 @@
-// Opens a table.
-ghost use Rattle.std.specs.Prelude.{◌≡◌, ◌<◌, None, Some, string_bytes, IfOk, IfErr, IsErrOf, OnOk};
+// Reads the rows of a table of the form that is read so far, file by file in the order in which a file out of form is
+// named.
+ghost use Rattle.std.specs.Prelude.{◌≡◌, ◌≢◌, ◌<◌, [], Ok, Err, filter, IfOk, IfErr, IsErrOf, OnOk};
+ghost use Rattle.std.specs.List.{list_all};
 ghost use Rattle.std.specs.Option.{ForSome};
 ghost use Rattle.plain_types.specs.Causes.{Rose};
-ghost use Rattle.dml_program.specs.Opening.{IsRefusal, Refuses, metadata_fault, metadata_status, table_fault, version_fault};
+ghost use Rattle.plain_types.specs.Steps.{or_fault};
+ghost use Rattle.std.specs.FinMap as map;
+ghost use Rattle.table_metadata.specs.Metadata.{parts};
+ghost use Rattle.table_state.specs.Live.{is_data, is_live};
+ghost use Rattle.dml_program.specs.Form.{is_data_manifest};
+ghost use Rattle.dml_program.specs.Opening.{IsRefusal, Refuses, RefusesTable, load_status, table_rows};
+ghost use Rattle.dml_program.specs.PlainTable.{if_form, plain_entries, plain_file, plain_list, plain_main, plain_manifest, plain_metadata, plain_rows, plain_snapshot, plain_version};
 
-use crate::form::has_form;
+use crate::form::{are_data_entries, are_data_manifests, has_form};
 use crate::status::{Status, TableKind};
-use plain_types::Text;
+use manifest_files::{Entry, ManifestRow};
+use plain_types::{List, Text};
+use row_values::Row;
 use std::alloc::Global;
-use store_core::{ReadAnswer, Store};
-use table_metadata::{Metadata, MetadataFault, read_metadata};
-use table_state::{current_version, version_name};
+use store_core::{Blob, ReadAnswer, Store};
+use table_metadata::{Metadata, MetadataFault, Snapshot, read_metadata};
+use table_state::{
+    LoadFault, current_version, head_of, read_data_file_at, read_list_at, read_manifest_at, snapshot_with,
+    version_name,
+};
 
-/// Reads the current version of a table, or tells what is wrong with the table.
-#[tactic(auto, unfolding(crate::specs::Opening::table_fault))]
-pub(crate) fn open_table<S: Store>(
+// The status of a call that could not read the file with this path.
+fn load_status(path: Text, fault: LoadFault) -> Status
+    ensures { result ≡ load_status path fault }
+{
+    match fault {
+        LoadFault::Store => Status::StoreFailed,
+        LoadFault::Memory => Status::Memory,
+        _other => later(path),
+    }
+}
+
+fn later(path: Text) -> Status
+    ensures { result ≡ Status.TableBad TableKind.Later path }
+{
+    Status::TableBad {
+        kind: TableKind::Later,
+        path,
+    }
+}
+
+#[tactic(auto, unfolding(crate::specs::PlainTable::plain_list))]
+fn plain_list<S: Store>(
     alloc: Global,
     store: &mut S,
     table: &str,
-) -> Result<Metadata, Status>
-    ensures found { OnOk result (ForSome (S.files store.old) (λ files. table_fault table.now files ≡ None)) }
-    ensures refused { IfErr result (λ status. ForSome (S.files store.old) (λ files. Refuses (table_fault table.now files) status)) }
+    metadata: &Metadata,
+    path: &str,
+) -> Result<List<ManifestRow>, Status>
+    ensures found { IfOk result (λ rows. ForSome (S.files store.old) (λ files. plain_list table.now (parts metadata.now) path.now files ≡ Ok rows)) }
+    ensures refused { IfErr result (λ status. ForSome (S.files store.old) (λ files. Refuses (plain_list table.now (parts metadata.now) path.now files) status)) }
     ensures kind { IfErr result IsRefusal }
     ensures store_failed { IsErrOf result Status.StoreFailed → Rose (S.faults store.old) (S.faults store.new) × (0 < S.unsettled store.new) }
     ensures quiet { OnOk result (S.faults store.new ≡ S.faults store.old) }
     ensures files { S.files store.new ≡ S.files store.old }
 {
-    match current_version(alloc, store, table) {
-        Ok(Some(version)) => open_version(alloc, store, table, version),
-        Ok(None) => Err(Status::TableBad {
-            kind: TableKind::NoVersion,
-            path: Text::copy_of(alloc, table)?,
-        }),
+    let name = Text::copy_of(alloc, path)?;
+    match read_list_at(alloc, store, table, metadata, path) {
+        Ok(rows) => data_manifests(name, rows),
+        Err(fault) => Err(load_status(name, fault)),
+    }
+}
+
+fn data_manifests(path: Text, rows: List<ManifestRow>) -> Result<List<ManifestRow>, Status>
+    ensures found { IfOk result (λ found. if_form path rows (list_all is_data_manifest rows) ≡ Ok found) }
+    ensures refused { IfErr result (λ status. (status ≡ Status.TableBad TableKind.Later path) × (if_form path rows (list_all is_data_manifest rows) ≡ Err path)) }
+{
+    if are_data_manifests(rows.as_slice()) {
+        Ok(rows)
+    } else {
+        Err(later(path))
+    }
+}
+
+// The live entries of the manifest that a row names.
+#[tactic(auto, unfolding(crate::specs::PlainTable::plain_manifest))]
+fn plain_manifest<S: Store>(
+    alloc: Global,
+    store: &mut S,
+    table: &str,
+    metadata: &Metadata,
+    row: &ManifestRow,
+) -> Result<Vec<Entry>, Status>
+    ensures found { IfOk result (λ entries. ForSome (S.files store.old) (λ files. plain_manifest table.now (parts metadata.now) row.now files ≡ Ok entries.items)) }
+    ensures refused { IfErr result (λ status. ForSome (S.files store.old) (λ files. Refuses (plain_manifest table.now (parts metadata.now) row.now files) status)) }
+    ensures kind { IfErr result IsRefusal }
+    ensures store_failed { IsErrOf result Status.StoreFailed → Rose (S.faults store.old) (S.faults store.new) × (0 < S.unsettled store.new) }
+    ensures quiet { OnOk result (S.faults store.new ≡ S.faults store.old) }
+    ensures files { S.files store.new ≡ S.files store.old }
+{
+    let name = Text::copy_of(alloc, row.manifest_path.as_str())?;
+    match read_manifest_at(alloc, store, table, metadata, row) {
+        Ok(entries) => data_entries(name, entries),
+        Err(fault) => Err(load_status(name, fault)),
+    }
+}
+
+fn data_entries(path: Text, entries: List<Entry>) -> Result<Vec<Entry>, Status>
+    ensures found { IfOk result (λ live. if_form path (filter is_live entries) (list_all is_data entries) ≡ Ok live.items) }
+    ensures refused { IfErr result (λ status. (status ≡ Status.TableBad TableKind.Later path) × (if_form path (filter is_live entries) (list_all is_data entries) ≡ Err path)) }
+{
+    if are_data_entries(entries.as_slice()) {
+        Ok(live_entries(entries))
+    } else {
+        Err(later(path))
+    }
+}
+
+fn live_entries(entries: List<Entry>) -> Vec<Entry>
+    ensures { result.items ≡ filter is_live entries }
+{
+    let mut live = entries.into_vec();
+    live.retain(|entry| entry.status < 2);
+    live
+}
+
+// The live entries of the manifests.
+#[tactic(auto, unfolding(crate::specs::PlainTable::plain_entries))]
+fn plain_entries<S: Store>(
+    alloc: Global,
+    store: &mut S,
+    table: &str,
+    metadata: &Metadata,
+    rows: &[ManifestRow],
+) -> Result<Vec<Entry>, Status>
+    ensures found { IfOk result (λ entries. ForSome (S.files store.old) (λ files. plain_entries table.now (parts metadata.now) [] rows.now files ≡ Ok entries.items)) }
+    ensures refused { IfErr result (λ status. ForSome (S.files store.old) (λ files. Refuses (plain_entries table.now (parts metadata.now) [] rows.now files) status)) }
+    ensures kind { IfErr result IsRefusal }
+    ensures store_failed { IsErrOf result Status.StoreFailed → Rose (S.faults store.old) (S.faults store.new) × (0 < S.unsettled store.new) }
+    ensures quiet { OnOk result (S.faults store.new ≡ S.faults store.old) }
+    ensures files { S.files store.new ≡ S.files store.old }
+{
+    let mut entries = Vec::new(alloc);
+    let mut rest = rows;
+    while let [row, after @ ..] = rest {
+        let mut more = plain_manifest(alloc, store, table, metadata, row)?;
+        entries.append(&mut more)?;
+        rest = after;
+    }
+    Ok(entries)
+}
+
+// The rows of a data file.
+fn plain_file<S: Store>(
+    alloc: Global,
+    store: &mut S,
+    table: &str,
+    metadata: &Metadata,
+    path: &str,
+) -> Result<Vec<Row>, Status>
+    ensures found { IfOk result (λ rows. ForSome (S.files store.old) (λ files. plain_file table.now (parts metadata.now) path.now files ≡ Ok rows.items)) }
+    ensures refused { IfErr result (λ status. ForSome (S.files store.old) (λ files. Refuses (plain_file table.now (parts metadata.now) path.now files) status)) }
+    ensures kind { IfErr result IsRefusal }
+    ensures store_failed { IsErrOf result Status.StoreFailed → Rose (S.faults store.old) (S.faults store.new) × (0 < S.unsettled store.new) }
+    ensures quiet { OnOk result (S.faults store.new ≡ S.faults store.old) }
+    ensures files { S.files store.new ≡ S.files store.old }
+{
+    let name = Text::copy_of(alloc, path)?;
+    match read_data_file_at(alloc, store, table, metadata, path) {
+        Ok(rows) => Ok(rows.into_vec()),
+        Err(fault) => Err(load_status(name, fault)),
+    }
+}
+
+// The rows of the data files.
+#[tactic(auto, unfolding(crate::specs::PlainTable::plain_rows))]
+fn plain_rows<S: Store>(
+    alloc: Global,
+    store: &mut S,
+    table: &str,
+    metadata: &Metadata,
+    entries: &[Entry],
+) -> Result<Vec<Row>, Status>
+    ensures found { IfOk result (λ rows. ForSome (S.files store.old) (λ files. plain_rows table.now (parts metadata.now) [] entries.now files ≡ Ok rows.items)) }
+    ensures refused { IfErr result (λ status. ForSome (S.files store.old) (λ files. Refuses (plain_rows table.now (parts metadata.now) [] entries.now files) status)) }
+    ensures kind { IfErr result IsRefusal }
+    ensures store_failed { IsErrOf result Status.StoreFailed → Rose (S.faults store.old) (S.faults store.new) × (0 < S.unsettled store.new) }
+    ensures quiet { OnOk result (S.faults store.new ≡ S.faults store.old) }
+    ensures files { S.files store.new ≡ S.files store.old }
+{
+    let mut rows = Vec::new(alloc);
+    let mut rest = entries;
+    while let [entry, after @ ..] = rest {
+        let mut more = plain_file(alloc, store, table, metadata, entry.path.as_str())?;
+        rows.append(&mut more)?;
+        rest = after;
+    }
+    Ok(rows)
+}
+
+// The rows of a snapshot.
+#[tactic(auto, unfolding(crate::specs::PlainTable::plain_snapshot))]
+fn plain_snapshot<S: Store>(
+    alloc: Global,
+    store: &mut S,
+    table: &str,
+    metadata: &Metadata,
+    snapshot: &Snapshot,
+) -> Result<Vec<Row>, Status>
+    ensures found { IfOk result (λ rows. ForSome (S.files store.old) (λ files. plain_snapshot table.now (parts metadata.now) snapshot.now files ≡ Ok rows.items)) }
+    ensures refused { IfErr result (λ status. ForSome (S.files store.old) (λ files. Refuses (plain_snapshot table.now (parts metadata.now) snapshot.now files) status)) }
+    ensures kind { IfErr result IsRefusal }
+    ensures store_failed { IsErrOf result Status.StoreFailed → Rose (S.faults store.old) (S.faults store.new) × (0 < S.unsettled store.new) }
+    ensures quiet { OnOk result (S.faults store.new ≡ S.faults store.old) }
+    ensures files { S.files store.new ≡ S.files store.old }
+{
+    let rows = plain_list(alloc, store, table, metadata, snapshot.list.as_str())?;
+    let entries = plain_entries(alloc, store, table, metadata, rows.as_slice())?;
+    plain_rows(alloc, store, table, metadata, entries.as_slice())
+}
+
+// The rows of `main`, of a version whose metadata has this name.
+#[tactic(auto, unfolding(crate::specs::PlainTable::plain_main))]
+fn plain_main<S: Store>(
+    alloc: Global,
+    store: &mut S,
+    table: &str,
+    metadata: &Metadata,
+    name: &str,
+) -> Result<Vec<Row>, Status>
+    ensures found { IfOk result (λ rows. ForSome (S.files store.old) (λ files. plain_main name.now table.now (parts metadata.now) files ≡ Ok rows.items)) }
+    ensures refused { IfErr result (λ status. ForSome (S.files store.old) (λ files. Refuses (plain_main name.now table.now (parts metadata.now) files) status)) }
+    ensures kind { IfErr result IsRefusal }
+    ensures store_failed { IsErrOf result Status.StoreFailed → Rose (S.faults store.old) (S.faults store.new) × (0 < S.unsettled store.new) }
+    ensures quiet { OnOk result (S.faults store.new ≡ S.faults store.old) }
+    ensures files { S.files store.new ≡ S.files store.old }
+{
+    let Some(id) = head_of("main", metadata.refs.as_slice()) else {
+        return Ok(Vec::new(alloc));
+    };
+    match snapshot_with(id, metadata.snapshots.as_slice()) {
+        Some(snapshot) => plain_snapshot(alloc, store, table, metadata, snapshot),
+        None => Err(later(Text::copy_of(alloc, name)?)),
+    }
+}
+
+// The metadata that the bytes of a version are, which has this name.
+#[tactic(auto, unfolding(crate::specs::PlainTable::plain_metadata))]
+fn plain_metadata(alloc: Global, name: &str, version: u32, bytes: &[u8]) -> Result<Metadata, Status>
+    ensures found { IfOk result (λ m. plain_metadata name.now version bytes.now ≡ Ok (parts m)) }
+    ensures refused { IfErr result (Refuses (plain_metadata name.now version bytes.now)) }
+    ensures kind { IfErr result IsRefusal }
+    ensures inside { IsErrOf result Status.StoreFailed → ⊥ }
+{
+    let path = Text::copy_of(alloc, name)?;
+    let metadata = match read_metadata(alloc, bytes) {
+        Ok(metadata) => metadata,
+        Err(MetadataFault::Memory) => return Err(Status::Memory),
+        Err(_other) => return Err(later(path)),
+    };
+    if has_form(version, &metadata) {
+        Ok(metadata)
+    } else {
+        Err(later(path))
+    }
+}
+
+// The bytes under a name of the store.
+fn read_name<S: Store>(alloc: Global, store: &mut S, name: &str) -> Result<Blob, Status>
+    ensures found { IfOk result (λ bytes. ForSome (S.files store.old) (λ files. or_fault name.now (map.get files name.now) ≡ Ok bytes)) }
+    ensures refused { IfErr result (λ status. ForSome (S.files store.old) (λ files. Refuses (or_fault name.now (map.get files name.now)) status)) }
+    ensures kind { IfErr result IsRefusal }
+    ensures store_failed { IsErrOf result Status.StoreFailed → Rose (S.faults store.old) (S.faults store.new) × (0 < S.unsettled store.new) }
+    ensures quiet { OnOk result (S.faults store.new ≡ S.faults store.old) }
+    ensures files { S.files store.new ≡ S.files store.old }
+{
+    match store.read(alloc, name) {
+        Ok(ReadAnswer::Found(bytes)) => Ok(bytes),
+        Ok(ReadAnswer::Missing) => Err(later(Text::copy_of(alloc, name)?)),
         Err(fault) => Err(Status::from(fault)),
     }
 }
 
-fn open_version<S: Store>(
+#[tactic(auto, unfolding(crate::specs::PlainTable::plain_version))]
+fn plain_version<S: Store>(
     alloc: Global,
     store: &mut S,
     table: &str,
     version: u32,
-) -> Result<Metadata, Status>
-    ensures found { OnOk result (ForSome (S.files store.old) (λ files. version_fault table.now files version ≡ None)) }
-    ensures refused { IfErr result (λ status. ForSome (S.files store.old) (λ files. Refuses (version_fault table.now files version) status)) }
+) -> Result<Vec<Row>, Status>
+    ensures found { IfOk result (λ rows. ForSome (S.files store.old) (λ files. plain_version table.now version files ≡ Ok rows.items)) }
+    ensures refused { IfErr result (λ status. ForSome (S.files store.old) (λ files. Refuses (plain_version table.now version files) status)) }
     ensures kind { IfErr result IsRefusal }
     ensures store_failed { IsErrOf result Status.StoreFailed → Rose (S.faults store.old) (S.faults store.new) × (0 < S.unsettled store.new) }
     ensures quiet { OnOk result (S.faults store.new ≡ S.faults store.old) }
     ensures files { S.files store.new ≡ S.files store.old }
 {
     let name = version_name(alloc, table, version)?;
-    match store.read(alloc, name.as_str()) {
-        Ok(ReadAnswer::Found(bytes)) => metadata_in_form(alloc, name, version, bytes.as_slice()),
-        Ok(ReadAnswer::Missing) => Err(later(name)),
-        Err(fault) => Err(Status::from(fault)),
-    }
+    let bytes = read_name(alloc, store, name.as_str())?;
+    let metadata = plain_metadata(alloc, name.as_str(), version, bytes.as_slice())?;
+    plain_main(alloc, store, table, &metadata, name.as_str())
 }
 
-// The metadata that the bytes of a version are, where it is of the form.
-fn metadata_in_form(
+/// The rows of `main` at a table's current version, or what is wrong with the table.
+#[tactic(auto, unfolding(crate::specs::Opening::table_rows))]
+pub(crate) fn table_rows<S: Store>(
     alloc: Global,
-    name: String,
-    version: u32,
-    bytes: &[u8],
-) -> Result<Metadata, Status>
-    ensures found { OnOk result (metadata_fault (string_bytes name) version (Some bytes.now) ≡ None) }
-    ensures refused { IfErr result (Refuses (metadata_fault (string_bytes name) version (Some bytes.now))) }
-    ensures inside { IsErrOf result Status.StoreFailed → ⊥ }
+    store: &mut S,
+    table: &str,
+) -> Result<Vec<Row>, Status>
+    ensures found { IfOk result (λ rows. ForSome (S.files store.old) (λ files. table_rows table.now files ≡ Ok rows.items)) }
+    ensures refused { IfErr result (λ status. ForSome (S.files store.old) (λ files. RefusesTable (table_rows table.now files) status)) }
     ensures kind { IfErr result IsRefusal }
+    ensures store_failed { IsErrOf result Status.StoreFailed → Rose (S.faults store.old) (S.faults store.new) × (0 < S.unsettled store.new) }
+    ensures quiet { OnOk result (S.faults store.new ≡ S.faults store.old) }
+    ensures files { S.files store.new ≡ S.files store.old }
 {
-    let metadata = match read_metadata(alloc, bytes) {
-        Ok(metadata) => metadata,
-        Err(fault) => return Err(metadata_status(name, fault)),
-    };
-    if has_form(version, &metadata) {
-        Ok(metadata)
-    } else {
-        Err(later(name))
-    }
-}
-
-fn metadata_status(name: String, fault: MetadataFault) -> Status
-    ensures { result ≡ metadata_status (string_bytes name) fault }
-{
-    match fault {
-        MetadataFault::Memory => Status::Memory,
-        _other => later(name),
-    }
-}
-
-fn later(name: String) -> Status
-    ensures { result ≡ Status.TableBad TableKind.Later (string_bytes name) }
-{
-    Status::TableBad {
-        kind: TableKind::Later,
-        path: Text::from_string(name),
+    match current_version(alloc, store, table) {
+        Ok(Some(version)) => plain_version(alloc, store, table, version),
+        Ok(None) => Err(Status::TableBad {
+            kind: TableKind::NoVersion,
+            path: Text::copy_of(alloc, table)?,
+        }),
+        Err(fault) => Err(Status::from(fault)),
     }
 }

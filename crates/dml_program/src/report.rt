@@ -1,9 +1,9 @@
 // The lines of the report.
 ghost use Rattle.std.specs.Prelude.{◌≡◌, ◌++◌, IfOk, OnOk};
-ghost use Rattle.std.specs.List.{flat_map};
-ghost use Rattle.dml_program.specs.Statuses.{escaped_byte, fault_lines, kind_text, line};
+ghost use Rattle.dml_program.specs.Statuses.{escaped_byte, fault_lines, kind_text, line, row_line, row_lines};
 
 use crate::status::{Status, TableKind};
+use plain_types::Bytes;
 use std::alloc::{AllocError, Global};
 
 /// What a status writes of itself.
@@ -35,23 +35,41 @@ fn kind_text(kind: TableKind) -> &'static str
     }
 }
 
-// The text as one line, with its line feed.
+/// The lines of the records.
+pub(crate) fn row_lines(alloc: Global, records: &[Bytes]) -> Result<Vec<u8>, AllocError>
+    ensures { IfOk result (λ lines. lines.items ≡ row_lines records.now) }
+{
+    let mut lines = Vec::new(alloc);
+    for text in records {
+        push_row(&mut lines, text.as_slice())?;
+    }
+    Ok(lines)
+}
+
+fn push_row(lines: &mut Vec<u8>, text: &[u8]) -> Result<(), AllocError>
+    ensures { OnOk result (lines.new.items ≡ lines.old.items ++ row_line text.now) }
+{
+    lines.extend_from_slice(b"row ")?;
+    push_line(lines, text)
+}
+
 fn line(alloc: Global, text: &str) -> Result<Vec<u8>, AllocError>
     ensures { IfOk result (λ bytes. bytes.items ≡ line text.now) }
 {
-    let mut bytes = escaped(alloc, text.as_bytes())?;
-    bytes.push(b'\n')?;
+    let mut bytes = Vec::new(alloc);
+    push_line(&mut bytes, text.as_bytes())?;
     Ok(bytes)
 }
 
-fn escaped(alloc: Global, text: &[u8]) -> Result<Vec<u8>, AllocError>
-    ensures { IfOk result (λ bytes. bytes.items ≡ flat_map escaped_byte text.now) }
+// Appends the text as one line, with its line feed.
+fn push_line(lines: &mut Vec<u8>, text: &[u8]) -> Result<(), AllocError>
+    ensures { OnOk result (lines.new.items ≡ lines.old.items ++ line text.now) }
 {
-    let mut bytes = Vec::new(alloc);
     for byte in text {
-        push_escaped(&mut bytes, *byte)?;
+        push_escaped(lines, *byte)?;
     }
-    Ok(bytes)
+    lines.push(b'\n')?;
+    Ok(())
 }
 
 fn push_escaped(bytes: &mut Vec<u8>, byte: u8) -> Result<(), AllocError>

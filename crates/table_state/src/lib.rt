@@ -1,12 +1,14 @@
 //! The versions of a table, as a store holds them.
 #![tactic(auto)]
 
+mod branches;
 mod files;
 mod live_set;
 mod load_fault;
 mod paths;
 mod version;
 
+pub use branches::{head_of, snapshot_with};
 pub use files::{read_data_file_at, read_list_at, read_manifest_at};
 pub use live_set::{BranchState, LiveSet};
 pub use load_fault::LoadFault;
