@@ -1,5 +1,5 @@
 -- Entries that are read are of their spec.
-use Rattle.std.proofs.Common.{◌≡◌, ℕ, ℤ, pos, nat_lt, ◌&&◌, Bool, true, false, cond, List, [], ◌∷◌, ◌++◌, Option, Some, None, option_and_then, Result, Ok, Err, refl, sym, ap, ◌∙◌, append_assoc, subst}
+use Rattle.std.proofs.Common.{◌≡◌, ℕ, ℤ, pos, nat_lt, Bool, true, false, cond, List, [], ◌∷◌, ◌++◌, Option, Some, None, option_and_then, Result, Ok, Err, refl, sym, ap, ◌∙◌, append_assoc, subst}
 use Rattle.std.specs.Prelude.{⊤}
 use Rattle.std.specs.List.{list_all}
 use Rattle.std.specs.Ordering.{int_eq}
@@ -40,13 +40,10 @@ use Rattle.manifest_files.specs.Places.{field_at, needed, optional, optional_ite
 use Rattle.manifest_files.specs.Datums.{present, present_at, int_in, text_in, items_at, as_text}
 use Rattle.manifest_files.specs.Inheritance.{numbered}
 use Rattle.manifest_files.specs.Needed.{needed_text, needed_count}
-use Rattle.manifest_files.specs.Statistics.{known_columns, stats_from}
+use Rattle.manifest_files.specs.Statistics.{known_columns, tells, stats_from}
 use Rattle.manifest_files.specs.Entries.{content_at, format_at, whole_maps, ids_from, part_value, part_values, partition_at, file_parts, status_of, status_at, raw_numbers, allowed, whole_entry, entry_of, entries_from, entries_of}
-use Rattle.manifest_files.specs.Sound.{is_part, are_parts, is_entry, AreEntries}
-
-both : (a b : Bool) → a ≡ true → b ≡ true → (a && b) ≡ true
-both true b h k = k
-both false b h k = absurd cc
+use Rattle.manifest_files.specs.Sound.{is_part, are_parts, rises, are_stats, is_entry, AreEntries}
+use Rattle.manifest_files.proofs.StatisticsLaws.{both, IsRising, known_rise, stats_rise, stats_tell}
 
 -- ---- a place is its field's
 
@@ -215,29 +212,31 @@ written_by : (allow : Result ⊤ ManifestFault) (written entry : Entry) → (all
 written_by (Ok done) written entry h = cc
 written_by (Err e) written entry h = absurd cc
 
-entry_is : (spec : Spec) (schema : TableSchema) (places : EntryPlaces) (row : ManifestRow) (columns : List KnownColumn) (datum : Datum) (entry : Entry) → AreOf schema.columns spec.fields places.file.part_fields → entry_of places row spec.id columns datum ≡ Ok entry → is_entry spec schema entry ≡ true
+entry_is : (spec : Spec) (schema : TableSchema) (places : EntryPlaces) (row : ManifestRow) (columns : List KnownColumn) (datum : Datum) (entry : Entry) → IsRising columns → AreOf schema.columns spec.fields places.file.part_fields → entry_of places row spec.id columns datum ≡ Ok entry → is_entry spec schema entry ≡ true
 unfolding entry_of
-entry_is spec schema places row columns datum entry are h =
+entry_is spec schema places row columns datum entry up are h =
     let status = two_steps (status_at places.status (values_of datum)) _ entry h in
     let numbers = two_steps (numbered row (raw_numbers places status.0 (values_of datum))) _ entry status.2 in
     let file = two_steps (or_fault (fault.Kind (pos 2)) (present (values_of datum) places.data_file)) _ entry numbers.2 in
     let parts = two_steps (file_parts places.file (values_of file.0)) _ entry file.2 in
     let same = written_by (allowed status.0 places.file parts.0 (values_of file.0)) (whole_entry status.0 numbers.0 spec.id parts.0 (record { columns = stats_from places.file (values_of file.0) [] columns })) entry parts.2 in
     let partition : are_parts schema.columns spec.fields parts.0.partition ≡ true = partition_of schema.columns spec.fields places.file (values_of file.0) parts.0.partition are (file_partition places.file (values_of file.0) parts.0 parts.1) in
-    ap (is_entry spec schema) same ∙ both (nat_lt status.0 3) _ (status_is places.status (values_of datum) status.0 status.1) (both (int_eq spec.id spec.id) _ (int_eq_equiv.refl spec.id) partition)
+    let told = stats_from places.file (values_of file.0) [] columns in
+    let stats : are_stats told ≡ true = both (rises told) (list_all tells told) (stats_rise places.file (values_of file.0) columns up) (stats_tell places.file (values_of file.0) columns) in
+    ap (is_entry spec schema) same ∙ both (nat_lt status.0 3) _ (status_is places.status (values_of datum) status.0 status.1) (both (int_eq spec.id spec.id) _ (int_eq_equiv.refl spec.id) (both _ _ partition stats))
 
-entries_stand : (spec : Spec) (schema : TableSchema) (places : EntryPlaces) (row : ManifestRow) (columns : List KnownColumn) (earlier : List Entry) (datums : List Datum) (entries : List Entry) → AreOf schema.columns spec.fields places.file.part_fields → list_all (is_entry spec schema) earlier ≡ true → entries_from places row spec.id columns earlier datums ≡ Ok entries → list_all (is_entry spec schema) entries ≡ true
+entries_stand : (spec : Spec) (schema : TableSchema) (places : EntryPlaces) (row : ManifestRow) (columns : List KnownColumn) (earlier : List Entry) (datums : List Datum) (entries : List Entry) → IsRising columns → AreOf schema.columns spec.fields places.file.part_fields → list_all (is_entry spec schema) earlier ≡ true → entries_from places row spec.id columns earlier datums ≡ Ok entries → list_all (is_entry spec schema) entries ≡ true
 unfolding entries_from
-entries_stand spec schema places row columns earlier [] entries are so_far h = rw (one_value entries earlier (Ok earlier) h refl) so_far
-entries_stand spec schema places row columns earlier (datum ∷ datums) entries are so_far h =
+entries_stand spec schema places row columns earlier [] entries up are so_far h = rw (one_value entries earlier (Ok earlier) h refl) so_far
+entries_stand spec schema places row columns earlier (datum ∷ datums) entries up are so_far h =
     let s = two_steps (entry_of places row spec.id columns datum) (λ entry. entries_from places row spec.id columns (earlier ++ entry ∷ []) datums) entries h in
-    let one : is_entry spec schema s.0 ≡ true = entry_is spec schema places row columns datum s.0 are s.1 in
+    let one : is_entry spec schema s.0 ≡ true = entry_is spec schema places row columns datum s.0 up are s.1 in
     let more : list_all (is_entry spec schema) (earlier ++ s.0 ∷ []) ≡ true = list_all-append (is_entry spec schema) earlier (s.0 ∷ []) ∙ both _ _ so_far (both _ _ one refl) in
-    entries_stand spec schema places row columns (earlier ++ s.0 ∷ []) datums entries are more s.2
+    entries_stand spec schema places row columns (earlier ++ s.0 ∷ []) datums entries up are more s.2
 
 pub entries_are : (bytes : List ℕ) (row : ManifestRow) (spec : Spec) (schema : TableSchema) (entries : List Entry) → entries_of bytes row spec schema ≡ Ok entries → AreEntries spec schema entries
 unfolding entries_of
 entries_are bytes row spec schema entries h =
     let container = two_steps (fault_as fault.Container (container_of bytes)) _ entries h in
     let places = two_steps (entry_places schema.columns spec.fields (fields_of container.0.schema)) _ entries container.2 in
-    entries_stand spec schema places.0 row (known_columns schema.columns) [] container.0.datums entries (entry_fields schema.columns spec.fields (fields_of container.0.schema) places.0 places.1) refl places.2
+    entries_stand spec schema places.0 row (known_columns schema.columns) [] container.0.datums entries (known_rise schema.columns) (entry_fields schema.columns spec.fields (fields_of container.0.schema) places.0 places.1) refl places.2
