@@ -6,4 +6,5 @@ pub mod Lists
 pub mod Needed
 pub mod PartitionKinds
 pub mod Places
+pub mod Sound
 pub mod Statistics

@@ -11,6 +11,7 @@ mod entry;
 mod field_type;
 mod finding;
 mod known_column;
+mod laws;
 mod layout;
 mod list;
 mod manifest;
@@ -25,6 +26,7 @@ mod statistics;
 mod tests;
 
 pub use entry::{Content, Entry};
+pub use laws::entries_are_of_their_spec;
 pub use list::read_list;
 pub use manifest::read_manifest;
 pub use manifest_fault::ManifestFault;
