@@ -21,8 +21,8 @@ use std::alloc::Global;
 use store_core::{Blob, ReadAnswer, Store};
 use table_metadata::{Metadata, MetadataFault, Snapshot, read_metadata};
 use table_state::{
-    LoadFault, current_version, head_of, read_data_file_at, read_list_at, read_manifest_at, snapshot_with,
-    version_name,
+    LoadFault, current_version, head_of, read_data_file_at, read_list_at, read_manifest_at,
+    snapshot_with, version_name,
 };
 
 // The status of a call that could not read the file with this path.
