@@ -1,5 +1,6 @@
 pub mod Digits
 pub mod FilterLaws
+pub mod KindLaws
 pub mod LocalLaws
 pub mod RunLaws
 pub mod StatementLaws

@@ -1,7 +1,8 @@
 //! Laws of serial runs. Each function says its law in its clauses, and does nothing.
 
-ghost use Rattle.std.specs.Prelude.{◌≡◌, ◌++◌, ℕ, List, Some, None, Ok, Err, true, false, codes, option_and_then};
+ghost use Rattle.std.specs.Prelude.{◌≡◌, ◌++◌, ℕ, List, Some, None, Ok, Err, true, false, codes, option_and_then, IsSome};
 ghost use Rattle.row_values.specs.declared.value.Value.{Value};
+ghost use Rattle.sql_predicates.specs.declared.pred.Pred.{Pred};
 ghost use Rattle.sql_statements.specs.declared.effect.SqlRefusal.{SqlRefusal};
 ghost use Rattle.sql_statements.specs.declared.statement.Source.{Source};
 ghost use Rattle.sql_statements.specs.declared.statement.Statement.{Statement};
@@ -40,6 +41,15 @@ pub fn a_new_branch_copies_main()
 pub fn a_dropped_branch_is_gone()
     ensures { (sources : List Source) (name : List ℕ) (state next : State) →
         after sources (statement.DropBranch name) state ≡ Some next → rows_on name next.branches ≡ None }
+{}
+
+/// A SELECT on a branch that is there leaves each branch as it was.
+pub fn a_select_leaves_every_branch_as_it_was()
+    ensures rows { (sources : List Source) (name : List ℕ) (filter : Pred) (state next : State) (other : List ℕ) →
+        after sources (statement.Select name filter) state ≡ Some next →
+        rows_on other next.branches ≡ rows_on other state.branches }
+    ensures stands { (sources : List Source) (name : List ℕ) (filter : Pred) (state : State) (rows : List (List Value)) →
+        rows_on name state.branches ≡ Some rows → IsSome (after sources (statement.Select name filter) state) }
 {}
 
 /// A run of two lists of statements is the run of the second from where the first ends.

@@ -244,21 +244,26 @@ const TWO_MATCHES: [Pair; 2] = [[Some(2), Some(5)], [Some(2), Some(6)]];
 const NULL_KEY: [Pair; 1] = [[None, Some(5)]];
 
 #[test]
-fn a_merge_with_no_one_and_two_matches(rt: HostRuntime) -> Result<(), AllocError> {
+fn a_source_row_without_a_match_is_inserted(rt: HostRuntime) -> Result<(), AllocError> {
     let statement = upsert(rt.alloc())?;
-    let inserted = [TABLE[0], TABLE[1], NO_MATCH[0]];
-    assert!(rt; leaves(rt.alloc(), &statement, &TABLE, &NO_MATCH, &inserted));
-    let updated = [TABLE[0], ONE_MATCH[0]];
-    assert!(rt; leaves(rt.alloc(), &statement, &TABLE, &ONE_MATCH, &updated));
-    assert!(rt;
-        is_refused(
-            rt.alloc(),
-            &statement,
-            &TABLE,
-            &TWO_MATCHES,
-            SqlRefusal::Cardinality
-        )
-    );
+    let wanted = [TABLE[0], TABLE[1], NO_MATCH[0]];
+    assert!(rt; leaves(rt.alloc(), &statement, &TABLE, &NO_MATCH, &wanted));
+    Ok(())
+}
+
+#[test]
+fn a_row_with_one_match_is_updated(rt: HostRuntime) -> Result<(), AllocError> {
+    let statement = upsert(rt.alloc())?;
+    let wanted = [TABLE[0], ONE_MATCH[0]];
+    assert!(rt; leaves(rt.alloc(), &statement, &TABLE, &ONE_MATCH, &wanted));
+    Ok(())
+}
+
+#[test]
+fn an_update_of_a_row_with_two_matches_is_refused(rt: HostRuntime) -> Result<(), AllocError> {
+    let statement = upsert(rt.alloc())?;
+    let why = SqlRefusal::Cardinality;
+    assert!(rt; is_refused(rt.alloc(), &statement, &TABLE, &TWO_MATCHES, why));
     Ok(())
 }
 
@@ -266,15 +271,8 @@ fn a_merge_with_no_one_and_two_matches(rt: HostRuntime) -> Result<(), AllocError
 #[test]
 fn a_null_key_in_the_source_matches_nothing(rt: HostRuntime) -> Result<(), AllocError> {
     let statement = upsert(rt.alloc())?;
-    assert!(rt;
-        is_refused(
-            rt.alloc(),
-            &statement,
-            &TABLE,
-            &NULL_KEY,
-            SqlRefusal::Null(0)
-        )
-    );
+    let why = SqlRefusal::Null(0);
+    assert!(rt; is_refused(rt.alloc(), &statement, &TABLE, &NULL_KEY, why));
     Ok(())
 }
 
@@ -287,16 +285,17 @@ fn delete_or_update(alloc: Global) -> Result<Statement, AllocError> {
 fn the_first_clause_that_applies_decides(rt: HostRuntime) -> Result<(), AllocError> {
     let statement = delete_or_update(rt.alloc())?;
     assert!(rt; leaves(rt.alloc(), &statement, &TABLE, &ONE_MATCH, &[TABLE[0]]));
+    Ok(())
+}
+
+#[test]
+fn a_clause_whose_condition_is_false_leaves_it_to_the_next(
+    rt: HostRuntime,
+) -> Result<(), AllocError> {
+    let statement = delete_or_update(rt.alloc())?;
     let other = [[Some(2), Some(6)]];
-    assert!(rt;
-        leaves(
-            rt.alloc(),
-            &statement,
-            &TABLE,
-            &other,
-            &[TABLE[0], other[0]]
-        )
-    );
+    let wanted = [TABLE[0], other[0]];
+    assert!(rt; leaves(rt.alloc(), &statement, &TABLE, &other, &wanted));
     Ok(())
 }
 
@@ -324,14 +323,7 @@ fn a_lone_delete_with_two_matches(rt: HostRuntime) -> Result<(), AllocError> {
 #[test]
 fn two_matches_are_refused_where_the_condition_is_false(rt: HostRuntime) -> Result<(), AllocError> {
     let statement = merge_delete(rt.alloc(), When::Matched, false)?;
-    assert!(rt;
-        is_refused(
-            rt.alloc(),
-            &statement,
-            &TABLE,
-            &TWO_MATCHES,
-            SqlRefusal::Cardinality
-        )
-    );
+    let why = SqlRefusal::Cardinality;
+    assert!(rt; is_refused(rt.alloc(), &statement, &TABLE, &TWO_MATCHES, why));
     Ok(())
 }
