@@ -20,6 +20,7 @@ use Rattle.sql_predicates.specs.declared.expr.Expr.TheOpen as open_expr
 use Rattle.sql_predicates.specs.Truth.{value_at}
 use Rattle.sql_predicates.specs.Exprs.{Answer, ◌>>=◌, outcome, held_by, decimals_combined, combined, widened, joined, value_level, value_of}
 use Rattle.sql_predicates.specs.Kinds.{is_value_or_null, has_kinds, is_part, column_fits, is_summed, is_multiplied, is_long, fits_level, fits}
+use Rattle.sql_predicates.proofs.FrontLaws.{and_left, and_right}
 
 abbrev ProvedExpr : (Expr → Type 0) → Type 0
 ProvedExpr P = (e : Expr) × P e
@@ -28,19 +29,11 @@ ProvedExpr P = (e : Expr) × P e
 by_parts : (P : Expr → Type 0) → ((y : open_expr.Expr-F (ProvedExpr P)) → P (roll-Expr (map-Expr (ProvedExpr P) Expr (λ e. e.0) y))) → (e : Expr) → P e
 by_parts P level = ind-Expr P (λ x y is. subst (λ z. P (roll-Expr z)) is (level y))
 
-and_left : (a b : Bool) → (a && b) ≡ true → a ≡ true
-and_left true b h = refl
-and_left false b h = h
-
-and_right : (a b : Bool) → (a && b) ≡ true → b ≡ true
-and_right true b h = h
-and_right false b h = absurd (false≢true h)
-
-and_both : (a b : Bool) → a ≡ true → b ≡ true → (a && b) ≡ true
+pub and_both : (a b : Bool) → a ≡ true → b ≡ true → (a && b) ≡ true
 and_both true b p q = q
 and_both false b p q = p
 
-or_right : (a b : Bool) → b ≡ true → (a || b) ≡ true
+pub or_right : (a b : Bool) → b ≡ true → (a || b) ≡ true
 or_right true b h = refl
 or_right false b h = h
 

@@ -14,7 +14,8 @@ use Rattle.sql_predicates.specs.declared.expr.Expr.{Expr}
 use Rattle.sql_predicates.specs.declared.pred.Pred.{Pred}
 use Rattle.sql_predicates.specs.Exprs.{Answer, value_of}
 use Rattle.sql_predicates.specs.Kinds.{is_value_or_null, has_kinds}
-use Rattle.sql_predicates.proofs.KindLaws.{OfKind, of_kind, row_has_kinds, kinds_joined, nulls_have_kinds}
+use Rattle.sql_predicates.proofs.FrontLaws.{and_left, and_right}
+use Rattle.sql_predicates.proofs.KindLaws.{and_both, or_right, OfKind, of_kind, row_has_kinds, kinds_joined, nulls_have_kinds}
 use Rattle.sql_statements.specs.declared.statement.Set.{Set}
 use Rattle.sql_statements.specs.declared.statement.When.{When}
 use Rattle.sql_statements.specs.declared.statement.When.TheVariants.{Matched, NotMatched, NotMatchedBySource}
@@ -33,22 +34,6 @@ use Rattle.sql_statements.specs.NewRows.{NewRow, computed, new_value, new_row, a
 use Rattle.sql_statements.specs.Clauses.{holds_on, nulls, match_of, matches, applies, chosen, acted, effect_by, inserted_by, insertion, is_matched}
 use Rattle.sql_statements.specs.Effects.{source_at, merge_effect, effect, insertions, is_ambiguous, replacement, replacements, new_rows, null_refusal, value_refusal, refusal, remaining, remains, rows_after, unless_refused, result_of}
 use Rattle.sql_statements.specs.Kinds.{widest, value_fits, exprs_fit, target_fits, set_fits, action_fits, clause_fits, merge_fits, statement_fits, source_has_rows}
-
-and_left : (a b : Bool) → (a && b) ≡ true → a ≡ true
-and_left true b h = refl
-and_left false b h = h
-
-and_right : (a b : Bool) → (a && b) ≡ true → b ≡ true
-and_right true b h = h
-and_right false b h = absurd (false≢true h)
-
-and_both : (a b : Bool) → a ≡ true → b ≡ true → (a && b) ≡ true
-and_both true b p q = q
-and_both false b p q = p
-
-or_right : (a b : Bool) → b ≡ true → (a || b) ≡ true
-or_right true b h = refl
-or_right false b h = h
 
 neither_left : (a b : Bool) → (a || b) ≡ false → a ≡ false
 neither_left true b h = h

@@ -2,6 +2,7 @@ pub mod Digits
 pub mod FilterLaws
 pub mod KindLaws
 pub mod LocalLaws
+pub mod RunKinds
 pub mod RunLaws
 pub mod StatementLaws
 pub mod Steps

@@ -17,6 +17,7 @@ use Rattle.sql_statements.specs.declared.statement.Source.{Source}
 use Rattle.sql_statements.specs.declared.statement.Statement.{Statement}
 use Rattle.sql_statements.specs.declared.statement.Statement.TheVariants as statement
 use Rattle.sql_statements.specs.Effects.{source_at}
+use Rattle.sql_statements.specs.Serial.{Branch, Told}
 
 -- the kind with as many digits as there are
 abbrev pub widest : Kind → Kind
@@ -65,3 +66,10 @@ statement_fits columns sources (statement.Select branch filter) = true
 -- the rows of a source are rows of its columns
 abbrev pub source_has_rows : Source → Bool
 source_has_rows source = list_all (is_row source.columns) source.rows
+
+-- the rows of the branch are rows of the columns
+abbrev pub branch_has_rows : List Column → Branch → Bool
+branch_has_rows columns b = list_all (is_row columns) b.rows
+
+abbrev pub told_fits : List Column → List Source → Told → Bool
+told_fits columns sources told = statement_fits columns sources told.statement

@@ -31,8 +31,9 @@ pub use reference::plain;
 pub use row_values::{Column, Row, TableSchema, Value};
 pub use runs::{
     a_dropped_branch_is_gone, a_new_branch_copies_main, a_run_goes_on_where_it_stopped,
-    a_select_leaves_every_branch_as_it_was, a_statement_leaves_its_result,
-    order_of_rows_does_not_matter_to_a_run, other_branches_keep_their_rows,
+    a_run_of_statements_that_fit_keeps_rows_of_the_columns, a_select_leaves_every_branch_as_it_was,
+    a_statement_leaves_its_result, order_of_rows_does_not_matter_to_a_run,
+    other_branches_keep_their_rows,
 };
 pub use sql_predicates::{Expr, Pred};
 pub use statement::{Action, Clause, Merge, Set, Source, Statement, When};

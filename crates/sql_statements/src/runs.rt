@@ -1,6 +1,7 @@
 //! Laws of serial runs. Each function says its law in its clauses, and does nothing.
 
-ghost use Rattle.std.specs.Prelude.{◌≡◌, ◌++◌, ℕ, List, Some, None, Ok, Err, true, false, codes, option_and_then, IsSome};
+ghost use Rattle.std.specs.Prelude.{◌≡◌, ◌++◌, ℕ, List, Some, None, Ok, Err, true, false, codes, option_and_then, IsSome, IsTrue};
+ghost use Rattle.std.specs.List.{list_all};
 ghost use Rattle.row_values.specs.declared.value.Value.{Value};
 ghost use Rattle.sql_predicates.specs.declared.pred.Pred.{Pred};
 ghost use Rattle.sql_statements.specs.declared.effect.SqlRefusal.{SqlRefusal};
@@ -8,6 +9,7 @@ ghost use Rattle.sql_statements.specs.declared.statement.Source.{Source};
 ghost use Rattle.sql_statements.specs.declared.statement.Statement.{Statement};
 ghost use Rattle.sql_statements.specs.declared.statement.Statement.TheVariants as statement;
 ghost use Rattle.sql_statements.specs.Effects.{result_of};
+ghost use Rattle.sql_statements.specs.Kinds.{branch_has_rows, source_has_rows, told_fits};
 ghost use Rattle.sql_statements.specs.Results.{SameState, SameOutcome};
 ghost use Rattle.sql_statements.specs.Serial.{State, Told, same_name, rows_on, after, serial};
 ghost use Rattle.sql_statements.specs.Tables.{is_dml, branch_of};
@@ -62,4 +64,12 @@ pub fn a_run_goes_on_where_it_stopped()
 pub fn order_of_rows_does_not_matter_to_a_run()
     ensures { (sources : List Source) (told : List Told) (a b : State) →
         SameState a b → SameOutcome (serial sources told a) (serial sources told b) }
+{}
+
+/// A run of statements that fit their columns keeps every branch to rows of the columns.
+pub fn a_run_of_statements_that_fit_keeps_rows_of_the_columns()
+    ensures { (sources : List Source) (told : List Told) (state end : State) →
+        IsTrue (list_all source_has_rows sources) → IsTrue (list_all (told_fits state.schema sources) told) →
+        IsTrue (list_all (branch_has_rows state.schema) state.branches) → serial sources told state ≡ Some end →
+        IsTrue (list_all (branch_has_rows state.schema) end.branches) }
 {}
