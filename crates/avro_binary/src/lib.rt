@@ -10,6 +10,7 @@ mod datum;
 mod fault;
 mod keys;
 mod leaf;
+mod named_types;
 mod names;
 mod number;
 mod placed;

@@ -178,3 +178,47 @@ fn schemas_end_at_32_deep_and_at_100000_nodes(rt: HostRuntime) -> Result<(), All
     }
     Ok(())
 }
+
+/// What the schema of a text is, as `Debug` writes it.
+fn written(alloc: Global, text: &[u8]) -> Option<String> {
+    match read_schema(alloc, text) {
+        Ok(schema) => format!(in alloc; "{:?}", schema).ok(),
+        Err(_f) => None,
+    }
+}
+
+fn are_alike(alloc: Global, text: &[u8], other: &[u8]) -> bool {
+    match (written(alloc, text), written(alloc, other)) {
+        (Some(first), Some(second)) => first.as_str() == second.as_str(),
+        _ => false,
+    }
+}
+
+const RECORD: &[u8] =
+    b"{\"type\":\"record\",\"name\":\"n.r\",\"fields\":[{\"name\":\"a\",\"type\":\"int\"}]}";
+
+const RECORD_WITH_MORE: &[u8] =
+    b"{\"doc\":\"d\",\"type\":\"record\",\"name\":\"n.r\",\"aliases\":[\"q\"],\"x\":{\"name\":[\"y\",1]},\"fields\":[{\"name\":\"a\",\"type\":\"int\",\"doc\":\"d\",\"aliases\":[\"b\"],\"order\":\"ignore\",\"default\":7,\"x\":{\"type\":1}}]}";
+
+const SYMBOLS: &[u8] = b"{\"type\":\"enum\",\"name\":\"e\",\"symbols\":[\"A\",\"B\"]}";
+
+const SYMBOLS_WITH_MORE: &[u8] =
+    b"{\"type\":\"enum\",\"name\":\"e\",\"symbols\":[\"A\",\"B\"],\"default\":\"B\",\"doc\":\"d\",\"aliases\":[]}";
+
+#[test]
+fn attributes_without_a_meaning_are_left_out_of_a_record(rt: HostRuntime) {
+    assert!(rt; are_alike(rt.alloc(), RECORD_WITH_MORE, RECORD));
+}
+
+#[test]
+fn attributes_without_a_meaning_are_left_out_of_an_enum(rt: HostRuntime) {
+    assert!(rt; are_alike(rt.alloc(), SYMBOLS_WITH_MORE, SYMBOLS));
+}
+
+#[test]
+fn attributes_that_have_a_meaning_are_kept(rt: HostRuntime) {
+    let plain: &[u8] = b"{\"type\":\"long\",\"x\":{\"logicalType\":\"timestamp-micros\"}}";
+    let instant: &[u8] = b"{\"type\":\"long\",\"logicalType\":\"timestamp-micros\"}";
+    assert!(rt; are_alike(rt.alloc(), plain, b"\"long\""));
+    assert!(rt; !are_alike(rt.alloc(), plain, instant));
+}

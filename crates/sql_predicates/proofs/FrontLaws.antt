@@ -28,11 +28,11 @@ truth_roll row = fold-roll-Pred Truth (truth_level row)
 pub within_roll : (width : ℕ) (x : open_pred.Pred-F Pred) → pred_is_within width (roll-Pred x) ≡ pred_level_is_within width (map-Pred Pred Bool (pred_is_within width) x)
 within_roll width = fold-roll-Pred Bool (pred_level_is_within width)
 
-and_left : (a b : Bool) → (a && b) ≡ true → a ≡ true
+pub and_left : (a b : Bool) → (a && b) ≡ true → a ≡ true
 and_left true b h = refl
 and_left false b h = h
 
-and_right : (a b : Bool) → (a && b) ≡ true → b ≡ true
+pub and_right : (a b : Bool) → (a && b) ≡ true → b ≡ true
 and_right true b h = h
 and_right false b h = absurd (false≢true h)
 

@@ -78,6 +78,44 @@ fn a_comparison_with_null_is_unknown_and_so_is_its_negation(
     Ok(())
 }
 
+/// Two truths, and what AND and OR give of them.
+type Tabled = (Truth, Truth, Truth, Truth);
+
+const TABLE: [Tabled; 9] = [
+    (Truth::True, Truth::True, Truth::True, Truth::True),
+    (Truth::True, Truth::False, Truth::False, Truth::True),
+    (Truth::True, Truth::Unknown, Truth::Unknown, Truth::True),
+    (Truth::False, Truth::True, Truth::False, Truth::True),
+    (Truth::False, Truth::False, Truth::False, Truth::False),
+    (Truth::False, Truth::Unknown, Truth::False, Truth::Unknown),
+    (Truth::Unknown, Truth::True, Truth::Unknown, Truth::True),
+    (Truth::Unknown, Truth::False, Truth::False, Truth::Unknown),
+    (
+        Truth::Unknown,
+        Truth::Unknown,
+        Truth::Unknown,
+        Truth::Unknown,
+    ),
+];
+
+fn is_as_tabled(row: &Tabled) -> bool {
+    row.0.and(row.1) == row.2 && row.0.or(row.1) == row.3
+}
+
+#[test]
+fn and_and_or_are_as_in_the_tables_of_sql(rt: HostRuntime) {
+    for row in TABLE.iter() {
+        assert!(rt; is_as_tabled(row));
+    }
+}
+
+#[test]
+fn not_unknown_is_unknown(rt: HostRuntime) {
+    assert_eq!(rt; Truth::Unknown.not(), Truth::Unknown);
+    assert_eq!(rt; Truth::True.not(), Truth::False);
+    assert_eq!(rt; Truth::False.not(), Truth::True);
+}
+
 /// `2 IN (NULL, n)`.
 fn in_null_and(alloc: Global, row: &Row, n: i32) -> Result<Option<Truth>, AllocError> {
     let pred = either(

@@ -1,6 +1,8 @@
 pub mod Digits
 pub mod FilterLaws
+pub mod KindLaws
 pub mod LocalLaws
+pub mod RunKinds
 pub mod RunLaws
 pub mod StatementLaws
 pub mod Steps

@@ -1,9 +1,10 @@
 -- Laws of serial runs.
 use Rattle.std.proofs.Common.{◌≡◌, ℕ, Bool, true, false, cond, List, [], ◌∷◌, ◌++◌, Option, Some, None, Ok, Err, refl, sym, ap, subst, ◌∙◌}
-use Rattle.std.specs.Prelude.{codes, Result, option_and_then, is_none, unwrap_or}
+use Rattle.std.specs.Prelude.{codes, Result, option_and_then, is_none, unwrap_or, IsSome}
 use Rattle.std.proofs.lemmas.Cmp.{nat_list_eq_equiv}
 use Rattle.plain_types.specs.Bags.{SameBag}
 use Rattle.row_values.specs.declared.value.Value.{Value}
+use Rattle.sql_predicates.specs.declared.pred.Pred.{Pred}
 use Rattle.sql_statements.specs.declared.statement.Statement.{Statement}
 use Rattle.sql_statements.specs.declared.statement.Statement.TheVariants as statement
 use Rattle.sql_statements.specs.declared.statement.Source.{Source}
@@ -12,7 +13,7 @@ use Rattle.sql_statements.specs.Effects.{result_of}
 use Rattle.sql_statements.specs.Tables.{is_dml, branch_of}
 use Rattle.sql_statements.specs.Serial.{Branch, State, Told, same_name, rows_on, without, with_rows, with_branches, changed, created, run_on, after, serial}
 use Rattle.sql_statements.specs.Results.{SameResult, SameRows, SameBranches, SameState, SameOutcome}
-use Rattle.sql_statements.proofs.StatementLaws.{result_of_bag}
+use Rattle.sql_statements.proofs.StatementLaws.{result_of_bag, select_leaves}
 
 abbrev branch : List ℕ → List (List Value) → Branch
 branch name rows = record { name = name; rows = rows }
@@ -147,6 +148,41 @@ result_stands sources s state next rows left may there is h =
 
 pub refused_gives_nothing : (sources : List Source) (s : Statement) (state : State) (rows : List (List Value)) (why : SqlRefusal) → is_dml s ≡ true → rows_on (branch_of s) state.branches ≡ Some rows → result_of state.schema sources s rows ≡ Err why → after sources s state ≡ None
 refused_gives_nothing sources s state rows why may there is = run_on_rows sources s state rows (Err why) may there is
+
+-- ---- SELECT
+
+as_near : (name other own : List ℕ) → same_name name other ≡ true → same_name own name ≡ same_name own other
+as_near name other own same = nat_list_eq_equiv.symm own name ∙ nat_list_eq_equiv.congr name other own same ∙ nat_list_eq_equiv.symm other own
+
+rows_of_alike : (name other : List ℕ) → same_name name other ≡ true → (bs : List Branch) → rows_on name bs ≡ rows_on other bs
+rows_of_alike name other same [] = refl
+rows_of_alike name other same (b ∷ bs) =
+    ap (λ f. cond f (Some b.rows) (rows_on name bs)) (as_near name other b.name same) ∙ ap (cond (same_name b.name other) (Some b.rows)) (rows_of_alike name other same bs)
+
+-- a branch that takes its own rows
+with_own_rows : (name other : List ℕ) (rows : List (List Value)) (bs : List Branch) → rows_on name bs ≡ Some rows → rows_on other (with_rows name rows bs) ≡ rows_on other bs
+with_own_rows name other rows bs there = by (same_name name other) refl
+  where
+    by : (same : Bool) → same_name name other ≡ same → rows_on other (with_rows name rows bs) ≡ rows_on other bs
+    by true is =
+        sym (rows_of_alike name other is (with_rows name rows bs)) ∙ own_of_with name rows rows bs there ∙ sym there ∙ rows_of_alike name other is bs
+    by false is = others_of_with name other rows is bs
+
+selected : (sources : List Source) (name : List ℕ) (filter : Pred) (state : State) (rows : List (List Value)) → rows_on name state.branches ≡ Some rows → after sources (statement.Select name filter) state ≡ Some (with_branches state (with_rows name rows state.branches))
+selected sources name filter state rows there =
+    ap (option_and_then (run_on sources state (statement.Select name filter))) there ∙ ap (changed state name) (select_leaves state.schema sources name filter rows)
+
+pub select_keeps : (sources : List Source) (name : List ℕ) (filter : Pred) (state next : State) (other : List ℕ) → after sources (statement.Select name filter) state ≡ Some next → rows_on other next.branches ≡ rows_on other state.branches
+select_keeps sources name filter state next other h = by (rows_on name state.branches) refl h
+  where
+    by : (there : Option (List (List Value))) → rows_on name state.branches ≡ there → option_and_then (run_on sources state (statement.Select name filter)) there ≡ Some next → rows_on other next.branches ≡ rows_on other state.branches
+    by None is made = absurd cc
+    by (Some rows) is made =
+        sym (ap (λ (st : State). rows_on other st.branches) (some_state _ next (sym (selected sources name filter state rows is) ∙ h)))
+        ∙ with_own_rows name other rows state.branches is
+
+pub select_stands : (sources : List Source) (name : List ℕ) (filter : Pred) (state : State) (rows : List (List Value)) → rows_on name state.branches ≡ Some rows → IsSome (after sources (statement.Select name filter) state)
+select_stands sources name filter state rows there = subst IsSome (sym (selected sources name filter state rows there)) refl
 
 -- ---- one run after another
 

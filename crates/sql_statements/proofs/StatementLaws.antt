@@ -1,5 +1,5 @@
 -- What a statement does is a function of the bag of rows, and the laws of INSERT and DELETE.
-use Rattle.std.proofs.Common.{◌≡◌, ℕ, ◌+◌, Bool, true, false, ◌&&◌, cond, List, [], ◌∷◌, ◌++◌, map, length, Option, Some, None, refl, ap, subst, ◌∙◌}
+use Rattle.std.proofs.Common.{◌≡◌, ℕ, ◌+◌, Bool, true, false, ◌&&◌, cond, List, [], ◌∷◌, ◌++◌, map, length, Option, Some, None, Ok, refl, ap, subst, ◌∙◌}
 use Rattle.std.specs.List.{list_any, flat_map}
 use Rattle.plain_types.specs.Bags.{SameBag, total}
 use Rattle.plain_types.proofs.BagLaws.{SameBag-append, SameBag-flat_map, SameBag-list_any}
@@ -148,3 +148,33 @@ all_stay sources branch tuples (row ∷ rows) =
 
 pub insert_adds : (width : ℕ) (sources : List Source) (branch : List ℕ) (tuples : List (List Expr)) (rows : List (List Value)) → rows_after width sources (statement.Insert branch tuples) rows ≡ rows ++ map row_of (map (new_row []) tuples)
 insert_adds width sources branch tuples rows = ap (λ ys. ys ++ map row_of (map (new_row []) tuples)) (all_stay sources branch tuples rows)
+
+-- ---- SELECT
+
+selected : (sources : List Source) (branch : List ℕ) (filter : Pred) (row : List Value) → remains sources (statement.Select branch filter) row ≡ row ∷ []
+unfolding remains effect
+selected sources branch filter row = refl
+
+all_selected : (sources : List Source) (branch : List ℕ) (filter : Pred) (rows : List (List Value)) → flat_map (remains sources (statement.Select branch filter)) rows ≡ rows
+all_selected sources branch filter [] = refl
+all_selected sources branch filter (row ∷ rows) =
+    ap (λ ys. ys ++ flat_map (remains sources (statement.Select branch filter)) rows) (selected sources branch filter row) ∙ ap (λ ys. row ∷ ys) (all_selected sources branch filter rows)
+
+nothing_new : (sources : List Source) (branch : List ℕ) (filter : Pred) (row : List Value) → replacements sources (statement.Select branch filter) row ≡ []
+unfolding replacements effect
+nothing_new sources branch filter row = refl
+
+none_new : (sources : List Source) (branch : List ℕ) (filter : Pred) (rows : List (List Value)) → flat_map (replacements sources (statement.Select branch filter)) rows ≡ []
+none_new sources branch filter [] = refl
+none_new sources branch filter (row ∷ rows) =
+    ap (λ ys. ys ++ flat_map (replacements sources (statement.Select branch filter)) rows) (nothing_new sources branch filter row) ∙ none_new sources branch filter rows
+
+select_is_not_refused : (columns : List Column) (sources : List Source) (branch : List ℕ) (filter : Pred) (rows : List (List Value)) → refusal columns sources (statement.Select branch filter) rows ≡ None
+select_is_not_refused columns sources branch filter rows =
+    ap (value_refusal columns) (append_nothing _ ∙ none_new sources branch filter rows) ∙ ap null_refusal (no_null 0 columns)
+
+-- a SELECT leaves the rows of its branch
+pub select_leaves : (columns : List Column) (sources : List Source) (branch : List ℕ) (filter : Pred) (rows : List (List Value)) → result_of columns sources (statement.Select branch filter) rows ≡ Ok rows
+select_leaves columns sources branch filter rows =
+    ap (λ why. unless_refused why (rows_after (length columns) sources (statement.Select branch filter) rows)) (select_is_not_refused columns sources branch filter rows)
+    ∙ ap (λ left. Ok left) (append_nothing _ ∙ all_selected sources branch filter rows)

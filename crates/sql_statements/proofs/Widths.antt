@@ -1,8 +1,10 @@
 -- The widths of rows in sight.
-use Rattle.std.proofs.Common.{◌≡◌, ℕ, ◌+◌, ◌==◌, Bool, true, false, ◌&&◌, List, [], ◌∷◌, ◌++◌, length, cond, refl, ap, ◌∙◌, IsTrue, eq-eqb, length-append}
+use Rattle.std.proofs.Common.{◌≡◌, ℕ, ◌+◌, ◌==◌, Bool, true, false, ◌&&◌, List, [], ◌∷◌, ◌++◌, length, cond, refl, ap, ◌∙◌, IsTrue, eq-eqb, length-append, suc}
 use Rattle.std.proofs.lemmas.Bool.{false≢true, eqb-true}
 use Rattle.std.proofs.lemmas.List.Folds.{list_all-append}
 use Rattle.row_values.specs.declared.value.Value.{Value}
+use Rattle.row_values.specs.declared.schema.Column.{Column}
+use Rattle.row_values.specs.Rows.{is_held, is_row, AreRows}
 use Rattle.sql_predicates.specs.declared.pred.Pred.{Pred}
 use Rattle.sql_statements.specs.Clauses.{holds_on, match_of, matches}
 use Rattle.sql_statements.specs.Fits.{are_wide}
@@ -42,3 +44,18 @@ wide_matches on (row ∷ rows) target width h =
 pub wide_sights : (on : Pred) (rows sights : List (List Value)) (target : List Value) (width padding : ℕ) → IsTrue (are_wide width rows) → padding ≡ width → sights ≡ matches on rows target → IsTrue (are_wide (length target + padding) sights)
 wide_sights on rows sights target width padding wide same is =
     ap (λ n. are_wide (length target + n) sights) same ∙ ap (are_wide (length target + width)) is ∙ wide_matches on rows target width wide
+
+-- ---- rows of the columns
+
+row_is_wide : (columns : List Column) (row : List Value) → is_row columns row ≡ true → length row ≡ length columns
+row_is_wide [] [] h = refl
+row_is_wide (column ∷ columns) (v ∷ vs) h = ap (λ n. suc n) (row_is_wide columns vs (and_right (is_held column v) _ h))
+row_is_wide [] (v ∷ vs) h = absurd (false≢true h)
+row_is_wide (column ∷ columns) [] h = absurd (false≢true h)
+
+pub rows_are_wide : (columns : List Column) (rows : List (List Value)) → AreRows columns rows → IsTrue (are_wide (length columns) rows)
+rows_are_wide columns [] h = refl
+rows_are_wide columns (row ∷ rows) h =
+    and_both (length row == length columns) (are_wide (length columns) rows)
+    (eq-eqb _ _ (row_is_wide columns row (and_left (is_row columns row) _ h)))
+    (rows_are_wide columns rows (and_right (is_row columns row) _ h))

@@ -2,6 +2,7 @@ pub mod Clauses
 pub mod Effects
 pub mod Filter
 pub mod Fits
+pub mod Kinds
 pub mod NewRows
 pub mod Results
 pub mod Serial

@@ -14,20 +14,24 @@ mod reference;
 mod runs;
 mod statement;
 mod tables;
+#[cfg(test)]
+mod tests;
 
 pub use effect::{Effect, NewRow, PlainFault, SqlRefusal};
 pub use filter::filter_of;
 pub use fits::{are_wide, sources_are_wide};
 pub use laws::{
-    a_statement_acts_on_the_rows_of_its_filter, delete_is_never_refused,
-    delete_of_all_leaves_nothing, insert_adds_exactly_its_rows, order_of_rows_does_not_matter,
-    rows_outside_the_filter_are_kept, statements_depend_on_the_rows_of_their_filter,
+    a_statement_acts_on_the_rows_of_its_filter, a_statement_that_fits_leaves_rows_of_the_columns,
+    delete_is_never_refused, delete_of_all_leaves_nothing, insert_adds_exactly_its_rows,
+    order_of_rows_does_not_matter, rows_of_the_columns_are_wide, rows_outside_the_filter_are_kept,
+    select_leaves_the_rows_as_they_are, statements_depend_on_the_rows_of_their_filter,
 };
 pub use plain_types::{List, Text};
 pub use reference::plain;
 pub use row_values::{Column, Row, TableSchema, Value};
 pub use runs::{
     a_dropped_branch_is_gone, a_new_branch_copies_main, a_run_goes_on_where_it_stopped,
+    a_run_of_statements_that_fit_keeps_rows_of_the_columns, a_select_leaves_every_branch_as_it_was,
     a_statement_leaves_its_result, order_of_rows_does_not_matter_to_a_run,
     other_branches_keep_their_rows,
 };

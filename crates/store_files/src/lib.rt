@@ -4,5 +4,7 @@
 
 mod folder;
 mod folder_store;
+#[cfg(test)]
+mod tests;
 
 pub use folder_store::FolderStore;

@@ -2,7 +2,6 @@ use Rattle.std.proofs.Common.{◌≡◌, true, take}
 use Rattle.std.specs.List.{list_all}
 use Rattle.std.specs.Prelude.{List, length, ◌==◌}
 use Rattle.row_values.specs.declared.value.Value.{Value}
-use Rattle.sql_statements.specs.Fits as spec
 use Rattle.sql_statements.proofs.fits.are_wide.Given as goal
 
 abbrev pub invariant-loop-row : goal.invariant-loop-row

@@ -2,7 +2,7 @@ use Rattle.std.proofs.lemmas.Result.{err_from_is_err_and}
 use Rattle.serde_json.specs.View.{items_view}
 use Rattle.avro_binary.specs.SchemaText.{each, symbol}
 use Rattle.avro_binary.proofs.Each.{each_goes, each_stops, each_done}
-use Rattle.avro_binary.proofs.schema_text.symbols.Goals as goal
+use Rattle.avro_binary.proofs.named_types.symbols.Goals as goal
 
 pub returns-in_err-one : goal.returns-in_err-one
 returns-in_err-one c =

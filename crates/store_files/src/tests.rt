@@ -1,0 +1,129 @@
+//! Each call of the folder store once on a real folder, below the one for temporary files.
+
+use crate::FolderStore;
+use std::alloc::{AllocError, Global};
+use std::rt::{Env, Files};
+use std::test::Fail;
+use std::{env, fs, io, process};
+use store_core::{Name, ReadAnswer, Store, SwapAnswer};
+
+/// A folder that no other run of the tests uses, with its final slash.
+fn fresh<R: Files + Env + AllocGlobal>(rt: &R, of: &str, run: u32) -> io::Result<String> {
+    let name = format!(in rt.alloc(); "store_files-{}-{}", of, run)?;
+    let folder = env::temp_dir(rt)?.join(rt.alloc(), name.as_str())?;
+    if folder.as_path().exists(rt) {
+        fs::remove_dir_all(rt, folder.as_path())?;
+    }
+    let mut folder = folder.into_string();
+    folder.push('/')?;
+    Ok(folder)
+}
+
+fn name_in(alloc: Global, folder: &str, name: &str) -> Result<String, AllocError> {
+    format!(in alloc; "{}{}", folder, name)
+}
+
+fn puts<R: Files + AllocGlobal + Clone + Drop>(
+    alloc: Global,
+    store: &mut FolderStore<R>,
+    name: &str,
+    bytes: &[u8],
+) -> bool {
+    store.put(alloc, name, bytes).is_ok()
+}
+
+fn swaps<R: Files + AllocGlobal + Clone + Drop>(
+    alloc: Global,
+    store: &mut FolderStore<R>,
+    name: &str,
+    wanted: SwapAnswer,
+) -> bool {
+    match store.swap(alloc, name, b"swapped") {
+        Ok(answer) => answer == wanted,
+        Err(_) => false,
+    }
+}
+
+/// Whether the read finds these bytes, or no file where there are to be none.
+fn reads<R: Files + AllocGlobal + Clone + Drop>(
+    alloc: Global,
+    store: &mut FolderStore<R>,
+    name: &str,
+    wanted: Option<&[u8]>,
+) -> bool {
+    match store.read(alloc, name) {
+        Ok(ReadAnswer::Found(bytes)) => Some(bytes.as_slice()) == wanted,
+        Ok(ReadAnswer::Missing) => wanted.is_none(),
+        Err(_) => false,
+    }
+}
+
+fn lists<R: Files + AllocGlobal + Clone + Drop>(
+    alloc: Global,
+    store: &mut FolderStore<R>,
+    prefix: &str,
+    wanted: &[&str],
+) -> bool {
+    match store.list(alloc, prefix) {
+        Ok(names) => are_names(names.as_slice(), wanted),
+        Err(_) => false,
+    }
+}
+
+fn are_names(names: &[Name], wanted: &[&str]) -> bool {
+    let mut rest = wanted;
+    for name in names {
+        match rest {
+            [] => return false,
+            [first, after @ ..] => {
+                if name.as_str() != *first {
+                    return false;
+                }
+                rest = after;
+            }
+        }
+    }
+    rest.is_empty()
+}
+
+#[test]
+fn a_file_that_was_put_is_read_and_listed(rt: HostRuntime) -> Result<(), Fail> {
+    let alloc = rt.alloc();
+    let folder = fresh(&rt, "put", process::id(rt.process()))?;
+    let mut store = FolderStore::new(rt.clone()?);
+    let name = name_in(alloc, folder.as_str(), "new/a")?;
+    let put = puts(alloc, &mut store, name.as_str(), b"first");
+    let read = reads(alloc, &mut store, name.as_str(), Some(b"first"));
+    let prefix = name_in(alloc, folder.as_str(), "new/")?;
+    let listed = lists(alloc, &mut store, prefix.as_str(), &[name.as_str()]);
+    fs::remove_dir_all(&rt, folder.as_str())?;
+    assert!(rt; put);
+    assert!(rt; read);
+    assert!(rt; listed);
+    Ok(())
+}
+
+#[test]
+fn a_name_is_won_once(rt: HostRuntime) -> Result<(), Fail> {
+    let alloc = rt.alloc();
+    let folder = fresh(&rt, "swap", process::id(rt.process()))?;
+    let mut store = FolderStore::new(rt.clone()?);
+    let name = name_in(alloc, folder.as_str(), "v1")?;
+    let won = swaps(alloc, &mut store, name.as_str(), SwapAnswer::Won);
+    let lost = swaps(alloc, &mut store, name.as_str(), SwapAnswer::Lost);
+    fs::remove_dir_all(&rt, folder.as_str())?;
+    assert!(rt; won);
+    assert!(rt; lost);
+    Ok(())
+}
+
+#[test]
+fn what_is_not_there_is_no_fault(rt: HostRuntime) -> Result<(), Fail> {
+    let alloc = rt.alloc();
+    let folder = fresh(&rt, "none", process::id(rt.process()))?;
+    let mut store = FolderStore::new(rt.clone()?);
+    let name = name_in(alloc, folder.as_str(), "a")?;
+    assert!(rt; reads(alloc, &mut store, name.as_str(), None));
+    assert!(rt; lists(alloc, &mut store, name.as_str(), &[]));
+    Ok(())
+}
