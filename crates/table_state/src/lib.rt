@@ -3,6 +3,7 @@
 
 mod branches;
 mod files;
+mod laws;
 mod live_set;
 mod load_fault;
 mod paths;
@@ -10,6 +11,7 @@ mod version;
 
 pub use branches::{head_of, snapshot_with};
 pub use files::{read_data_file_at, read_list_at, read_manifest_at};
+pub use laws::branches_stand_when_files_are_added;
 pub use live_set::{BranchState, LiveSet};
 pub use load_fault::LoadFault;
 pub use paths::name_of;
