@@ -4,7 +4,7 @@ use Rattle.std.specs.FinMap as map
 use Rattle.plain_types.specs.Steps.{◌>>=◌, or_fault, by_option, fault_as}
 use Rattle.row_values.specs.declared.value.Value.{Value}
 use Rattle.store_core.specs.Files.{Files, KeepsFiles}
-use Rattle.avro_rows.proofs.Stepwise.{two_steps}
+pub use Rattle.avro_rows.proofs.Stepwise.{two_steps}
 use Rattle.manifest_files.specs.declared.entry.Entry.{Entry}
 use Rattle.manifest_files.specs.declared.manifest_row.ManifestRow.{ManifestRow}
 use Rattle.table_metadata.specs.Metadata.{Parts, metadata_of}
