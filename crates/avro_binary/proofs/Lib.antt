@@ -7,3 +7,5 @@ pub mod DatumLaws
 pub mod Answered
 pub mod Placing
 pub mod Each
+pub mod Appending
+pub mod ShortestLaws

@@ -3,6 +3,7 @@ pub mod Number
 pub mod Shape
 pub mod Reading
 pub mod Grammar
+pub mod Spelling
 pub mod Fault
 pub mod Word
 pub mod Naming

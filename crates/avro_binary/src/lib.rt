@@ -22,6 +22,10 @@ mod schema_text;
 #[cfg(test)]
 mod tests;
 mod word;
+mod write;
+mod writing;
+mod writing_laws;
+mod writing_leaf;
 
 pub use datum::{Datum, MapPair};
 pub use fault::{DatumFault, FaultKind, Spot, Stop};
@@ -32,3 +36,7 @@ pub use reading::{datum_at, datums_at};
 pub use schema::{Field, Logical, Schema};
 pub use schema_fault::SchemaFault;
 pub use schema_reader::read_schema;
+pub use write::write_datum;
+pub use writing::put_each;
+pub use writing_laws::numbers_are_spelled_shortest;
+pub use writing_leaf::{put_bytes, put_counted, put_natural};
