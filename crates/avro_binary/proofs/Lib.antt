@@ -9,3 +9,5 @@ pub mod Placing
 pub mod Each
 pub mod Appending
 pub mod ShortestLaws
+pub mod Spelled
+pub mod SpellingLaws

@@ -1,6 +1,6 @@
 -- How a datum is written (Avro 1.11.1, 'Binary Encoding'): each number by its shortest spelling, and all items of an
 -- array or a map in one block.
-use Rattle.std.specs.Prelude.{◌≡◌, ℕ, zero, suc, ◌+◌, ◌*◌, ◌/◌, ◌%◌, ◌^◌, ◌<◌, ℤ, pos, negsuc, Bool, List, [], ◌∷◌, ◌++◌, map, length, nat_lt, if◌then◌else◌}
+use Rattle.std.specs.Prelude.{◌≡◌, ℕ, zero, suc, ◌+◌, ◌*◌, ◌/◌, ◌%◌, ◌^◌, ◌<◌, ℤ, pos, negsuc, Bool, true, false, ◌&&◌, ◌||◌, List, [], ◌∷◌, ◌++◌, map, length, nat_lt, if◌then◌else◌}
 use Rattle.std.specs.List.{concat, AllByRecursion}
 use Rattle.std.specs.Str.{IsUtf8}
 use Rattle.avro_binary.specs.declared.datum.Datum.{Datum, fold-Datum}
@@ -99,3 +99,45 @@ unfoldable mutual
   FitsBranch no_shapes index value = ⊥
   FitsBranch (more_shapes s ss) zero value = Fits s value
   FitsBranch (more_shapes s ss) (suc index) value = FitsBranch ss index value
+
+-- ---- shapes whose datums can be told apart
+
+abbrev mutual
+  -- each datum of this shape takes a byte
+  pub takes_bytes : Shape → Bool
+  takes_bytes null_shape = false
+  takes_bytes boolean_shape = true
+  takes_bytes int_shape = true
+  takes_bytes long_shape = true
+  takes_bytes bytes_shape = true
+  takes_bytes text_shape = true
+  takes_bytes (record_shape fields) = some_takes_bytes fields
+  takes_bytes (enum_shape count) = true
+  takes_bytes (array_shape items) = true
+  takes_bytes (map_shape values) = true
+  takes_bytes (union_shape branches) = true
+  takes_bytes (fixed_shape size) = nat_lt 0 size
+
+  pub some_takes_bytes : Shapes → Bool
+  some_takes_bytes no_shapes = false
+  some_takes_bytes (more_shapes s ss) = takes_bytes s || some_takes_bytes ss
+
+abbrev mutual
+  -- each item of each array inside takes a byte, so that a count of items never exceeds the bytes after it
+  pub items_take_bytes : Shape → Bool
+  items_take_bytes null_shape = true
+  items_take_bytes boolean_shape = true
+  items_take_bytes int_shape = true
+  items_take_bytes long_shape = true
+  items_take_bytes bytes_shape = true
+  items_take_bytes text_shape = true
+  items_take_bytes (record_shape fields) = all_items_take_bytes fields
+  items_take_bytes (enum_shape count) = true
+  items_take_bytes (array_shape items) = takes_bytes items && items_take_bytes items
+  items_take_bytes (map_shape values) = items_take_bytes values
+  items_take_bytes (union_shape branches) = all_items_take_bytes branches
+  items_take_bytes (fixed_shape size) = true
+
+  pub all_items_take_bytes : Shapes → Bool
+  all_items_take_bytes no_shapes = true
+  all_items_take_bytes (more_shapes s ss) = items_take_bytes s && all_items_take_bytes ss

@@ -1,10 +1,20 @@
 //! Laws of what is written. Each function says its law in its clauses, and does nothing.
-ghost use Rattle.std.specs.Prelude.{ℕ, List, ◌^◌, ◌<◌, ◌≤◌, length};
-ghost use Rattle.avro_binary.specs.Grammar.{IsNumber};
-ghost use Rattle.avro_binary.specs.Spelling.{groups_of};
+ghost use Rattle.std.specs.Prelude.{◌≡◌, ℕ, List, ◌++◌, ◌^◌, ◌<◌, ◌≤◌, IsTrue, Ok, length};
+ghost use Rattle.avro_binary.specs.declared.datum.Datum.{Datum as Tree};
+ghost use Rattle.avro_binary.specs.Shape.{Shape};
+ghost use Rattle.avro_binary.specs.Reading.{datum_at};
+ghost use Rattle.avro_binary.specs.Grammar.{IsNumber, Reads};
+ghost use Rattle.avro_binary.specs.Spelling.{groups_of, spelling, Fits, items_take_bytes};
 
 /// The groups of a number spell it, and no spelling of it is shorter.
 pub fn numbers_are_spelled_shortest()
     ensures spells { (n : ℕ) → n < 2 ^ 64 → IsNumber (groups_of n) n }
     ensures shortest { (n : ℕ) (spelling : List ℕ) → IsNumber spelling n → length (groups_of n) ≤ length spelling }
+{}
+
+/// What is written is read again, whatever follows it. Each array's items take bytes, since a block counts
+/// no more items than bytes are left.
+pub fn what_is_written_is_read()
+    ensures reading { (s : Shape) (d : Tree) (rest : List ℕ) → IsTrue (items_take_bytes s) → Fits s d → length (spelling d) < 2 ^ 63 → datum_at s (spelling d ++ rest) ≡ Ok (d, rest) }
+    ensures grammar { (s : Shape) (d : Tree) (rest : List ℕ) → IsTrue (items_take_bytes s) → Fits s d → length (spelling d) < 2 ^ 63 → Reads s (spelling d ++ rest) d rest }
 {}
