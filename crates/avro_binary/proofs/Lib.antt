@@ -11,3 +11,4 @@ pub mod Appending
 pub mod ShortestLaws
 pub mod Spelled
 pub mod SpellingLaws
+pub mod SchemaLoops

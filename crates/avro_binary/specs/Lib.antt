@@ -9,3 +9,4 @@ pub mod Word
 pub mod Naming
 pub mod Placed
 pub mod SchemaText
+pub mod SchemaData

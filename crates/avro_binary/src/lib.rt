@@ -16,6 +16,7 @@ mod placed;
 mod read;
 mod reading;
 mod schema;
+mod schema_data;
 mod schema_fault;
 mod schema_reader;
 mod schema_text;
