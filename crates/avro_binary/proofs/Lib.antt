@@ -12,3 +12,4 @@ pub mod ShortestLaws
 pub mod Spelled
 pub mod SpellingLaws
 pub mod SchemaLoops
+pub mod SchemaFloats

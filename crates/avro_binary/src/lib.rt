@@ -20,10 +20,12 @@ mod schema_data;
 mod schema_fault;
 mod schema_reader;
 mod schema_text;
+mod schema_writer;
 #[cfg(test)]
 mod tests;
 mod word;
 mod write;
+
 mod writing;
 mod writing_laws;
 mod writing_leaf;
@@ -37,7 +39,9 @@ pub use reading::{datum_at, datums_at};
 pub use schema::{Field, Logical, Schema};
 pub use schema_fault::SchemaFault;
 pub use schema_reader::read_schema;
+pub use schema_writer::write_schema;
 pub use write::write_datum;
+
 pub use writing::put_each;
 pub use writing_laws::numbers_are_spelled_shortest;
 pub use writing_leaf::{put_bytes, put_counted, put_natural};

@@ -150,7 +150,7 @@ fn fixed_json(alloc: Global, name: &[u8], size: u64, logical: &Logical, begun: V
 }
 
 #[cycle(schema_data)]
-fn schema_json(alloc: Global, schema: &Schema, begun: Vec<Octets>) -> Result<(Value, Vec<Octets>), AllocError>
+pub fn schema_json(alloc: Global, schema: &Schema, begun: Vec<Octets>) -> Result<(Value, Vec<Octets>), AllocError>
     ensures { IfOk result (λ x. (view x.0, x.1.items) ≡ written schema.now begun.items) }
 {
     match schema {
