@@ -19,13 +19,13 @@ use Rattle.avro_binary.proofs.Spelled.{spells_null, spells_boolean, spells_int, 
 
 -- ---- numbers
 
-number_again : (n : ℕ) (rest : List ℕ) → n < 2 ^ 64 → ReadsNumber (groups_of n ++ rest) n rest
+pub number_again : (n : ℕ) (rest : List ℕ) → n < 2 ^ 64 → ReadsNumber (groups_of n ++ rest) n rest
 number_again n rest lt = record { spelling = groups_of n; parts = refl; few = groups_few 9 n; is = groups_are 9 n (fits_limit n lt); fits = lt }
 
-half : (n : ℕ) → 2 * n / 2 ≡ n
+pub half : (n : ℕ) → 2 * n / 2 ≡ n
 half n = omega arith
 
-even : (n : ℕ) → (2 * n) % 2 ≡ 0
+pub even : (n : ℕ) → (2 * n) % 2 ≡ 0
 even n = omega arith
 
 signed_again : (z : ℤ) → z ≡ signed (zigzag z)
@@ -46,7 +46,7 @@ int_again z rest lt = let narrow : zigzag z < 2 ^ 32 = zigzag_narrow z lt in (zi
 long_again : (z : ℤ) (rest : List ℕ) → IsSignedOf 63 z → ReadsLong (signed_groups z ++ rest) z rest
 long_again z rest lt = (zigzag z, number_again (zigzag z) rest (zigzag_fits z lt), signed_again z)
 
-length_again : (n : ℕ) (rest : List ℕ) → n < 2 ^ 63 → ReadsLength (natural n ++ rest) n rest
+pub length_again : (n : ℕ) (rest : List ℕ) → n < 2 ^ 63 → ReadsLength (natural n ++ rest) n rest
 length_again n rest lt = (2 * n, number_again (2 * n) rest (omega arith), even n, sym (half n))
 
 index_again : (limit n : ℕ) (rest : List ℕ) → n < limit → n < 2 ^ 32 → ReadsIndex limit (natural n ++ rest) n rest
@@ -78,7 +78,7 @@ text_again bytes rest utf8 short = (bytes, bytes_again bytes rest short, utf8, r
 
 -- ---- items
 
-abbrev ReadAgain : {A : Type 0} → (A → Type 0) → (List ℕ → A → List ℕ → Type 0) → (A → List ℕ) → Type 0
+abbrev pub ReadAgain : {A : Type 0} → (A → Type 0) → (List ℕ → A → List ℕ → Type 0) → (A → List ℕ) → Type 0
 ReadAgain {A = A} fits reads spell = (x : A) (rest : List ℕ) → fits x → length (spell x) < 2 ^ 63 → reads (spell x ++ rest) x rest
 
 pub each_again : {A : Type 0} (fits : A → Type 0) (reads : List ℕ → A → List ℕ → Type 0) (spell : A → List ℕ) → ReadAgain fits reads spell
@@ -107,7 +107,7 @@ no_more rest = count_again 0 rest (omega arith) (omega arith)
 block_parts : (number items rest : List ℕ) → ((number ++ items) ++ 0 ∷ []) ++ rest ≡ number ++ (items ++ 0 ∷ rest)
 block_parts number items rest = simp append_assoc
 
-block_again : {A : Type 0} (fits : A → Type 0) (reads : List ℕ → A → List ℕ → Type 0) (spell : A → List ℕ) → ReadAgain fits reads spell → ((x : A) → fits x → 0 < length (spell x))
+pub block_again : {A : Type 0} (fits : A → Type 0) (reads : List ℕ → A → List ℕ → Type 0) (spell : A → List ℕ) → ReadAgain fits reads spell → ((x : A) → fits x → 0 < length (spell x))
     → (xs : List A) (rest : List ℕ) → AllByRecursion fits xs → length (block (map spell xs)) < 2 ^ 63 → ReadsAll reads (block (map spell xs) ++ rest) xs rest
 block_again fits reads spell again takes [] rest all short = ([], no_more rest, refl)
 block_again {A = A} fits reads spell again takes (x ∷ xs) rest all short =
@@ -129,7 +129,7 @@ block_again {A = A} fits reads spell again takes (x ∷ xs) rest all short =
 natural_some : (n : ℕ) → 0 < length (natural n)
 natural_some n = groups_some 9 (2 * n)
 
-after_natural : (n : ℕ) (rest : List ℕ) → 0 < length (natural n ++ rest)
+pub after_natural : (n : ℕ) (rest : List ℕ) → 0 < length (natural n ++ rest)
 after_natural n rest = let some : 0 < length (natural n) = natural_some n in omega (arith, length-append (natural n) rest)
 
 block_some : (xs : List (List ℕ)) → 0 < length (block xs)
@@ -140,7 +140,7 @@ one_or_other : (a b : Bool) → (a || b) ≡ true → (a ≡ true) ⊎ (b ≡ tr
 one_or_other true b e = inl refl
 one_or_other false b e = inr e
 
-both : (a b : Bool) → (a && b) ≡ true → (a ≡ true) × (b ≡ true)
+pub both : (a b : Bool) → (a && b) ≡ true → (a ≡ true) × (b ≡ true)
 both true b e = (refl, e)
 both false b e = absurd cc
 

@@ -6,3 +6,5 @@ pub mod MetaLaws
 pub mod BlockLaws
 pub mod FileLaws
 pub mod Answered
+pub mod Pieces
+pub mod TextLaws

@@ -11,6 +11,8 @@ mod header;
 mod pairs;
 #[cfg(test)]
 mod tests;
+mod writer;
+mod writing;
 
 pub use block::next_block;
 pub use container::{Container, one_container, read_container};
@@ -18,3 +20,4 @@ pub use fault::ContainerFault;
 pub use header::{Header, read_header};
 pub use pairs::MetaPair;
 pub use plain_types::{Bytes as Blob, List, Text as Name};
+pub use writer::{what_is_written_is_read, write_container};
