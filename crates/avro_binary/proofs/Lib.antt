@@ -13,3 +13,4 @@ pub mod Spelled
 pub mod SpellingLaws
 pub mod SchemaLoops
 pub mod SchemaFloats
+pub mod SchemaLaws

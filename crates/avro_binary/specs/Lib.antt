@@ -10,3 +10,4 @@ pub mod Naming
 pub mod Placed
 pub mod SchemaText
 pub mod SchemaData
+pub mod SchemaOnce

@@ -1,7 +1,11 @@
 //! Laws of what is written. Each function says its law in its clauses, and does nothing.
 ghost use Rattle.std.specs.Prelude.{◌≡◌, ℕ, List, ◌++◌, ◌^◌, ◌<◌, ◌≤◌, IsTrue, Ok, length};
 ghost use Rattle.avro_binary.specs.declared.datum.Datum.{Datum as Tree};
+ghost use Rattle.avro_binary.specs.declared.schema.Schema.{Schema as Types};
 ghost use Rattle.avro_binary.specs.Shape.{Shape};
+ghost use Rattle.avro_binary.specs.SchemaText.{schema_of};
+ghost use Rattle.avro_binary.specs.SchemaData.{data_of};
+ghost use Rattle.avro_binary.specs.SchemaOnce.{has_text};
 ghost use Rattle.avro_binary.specs.Reading.{datum_at};
 ghost use Rattle.avro_binary.specs.Grammar.{IsNumber, Reads};
 ghost use Rattle.avro_binary.specs.Spelling.{groups_of, spelling, Fits, items_take_bytes};
@@ -17,4 +21,9 @@ pub fn numbers_are_spelled_shortest()
 pub fn what_is_written_is_read()
     ensures reading { (s : Shape) (d : Tree) (rest : List ℕ) → IsTrue (items_take_bytes s) → Fits s d → length (spelling d) < 2 ^ 63 → datum_at s (spelling d ++ rest) ≡ Ok (d, rest) }
     ensures grammar { (s : Shape) (d : Tree) (rest : List ℕ) → IsTrue (items_take_bytes s) → Fits s d → length (spelling d) < 2 ^ 63 → Reads s (spelling d ++ rest) d rest }
+{}
+
+/// The JSON of a schema is read as the schema.
+pub fn the_json_of_a_schema_is_read()
+    ensures { (s : Types) → IsTrue (has_text s) → schema_of (data_of s) ≡ Ok s }
 {}
