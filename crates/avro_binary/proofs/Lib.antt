@@ -14,3 +14,5 @@ pub mod SpellingLaws
 pub mod SchemaLoops
 pub mod SchemaFloats
 pub mod SchemaLaws
+pub mod JsonTexts
+pub mod SchemaTexts

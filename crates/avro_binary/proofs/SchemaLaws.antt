@@ -36,7 +36,7 @@ names_of f b l = record { finished = f; begun = b; left = l }
 
 -- ---- texts
 
-lossless : (name : List ℕ) → is_utf8 name ≡ true → utf8_lossy name ≡ name
+pub lossless : (name : List ℕ) → is_utf8 name ≡ true → utf8_lossy name ≡ name
 lossless name h = utf8_lossy-IsUtf8 name (IsUtf8-from_is_utf8 name h)
 
 full_by : (o : Option ℕ) (name : List ℕ) → last_dot name ≡ o → full_name (utf8_lossy (space_of name)) name ≡ name
@@ -59,7 +59,7 @@ type_of word (TimestampMicros utc) = refl
 type_of word (Decimal precision scale) = refl
 type_of word (Other name) = refl
 
-both_true : (a b : Bool) → (a && b) ≡ true → (a ≡ true) × (b ≡ true)
+pub both_true : (a b : Bool) → (a && b) ≡ true → (a ≡ true) × (b ≡ true)
 both_true true b e = (refl, e)
 both_true false b e = absurd cc
 
@@ -116,7 +116,7 @@ fixed_logical_is space name size (Other other) h =
 
 -- ---- ids
 
-none_no_some : false ≡ true → ⊥
+pub none_no_some : false ≡ true → ⊥
 none_no_some e = cc
 
 narrow_is : (z : ℤ) → is_some (narrow z) ≡ true → option_and_then narrow (as_i64 (of_integer z)) ≡ Some z
@@ -151,30 +151,30 @@ ReadsField f = (depth : ℕ) (space : List ℕ) → ReadsAs (field (schema_at de
 abbrev got : {A : Type 0} → A → Names → Result (A × Names) SchemaFault
 got x names = Ok (x, names)
 
-same_some : {A : Type 0} (x y : A) → Some x ≡ Some y → x ≡ y
+pub same_some : {A : Type 0} (x y : A) → Some x ≡ Some y → x ≡ y
 same_some x y e = cc
 
-none_some : {A P : Type 0} (y : A) → None ≡ Some y → P
+pub none_some : {A P : Type 0} (y : A) → None ≡ Some y → P
 none_some y e = absurd cc
 
-and_then : {A B : Type 0} (g : A → Option B) (o : Option A) (y : B) → option_and_then g o ≡ Some y → (x : A) × (o ≡ Some x) × (g x ≡ Some y)
+pub and_then : {A B : Type 0} (g : A → Option B) (o : Option A) (y : B) → option_and_then g o ≡ Some y → (x : A) × (o ≡ Some x) × (g x ≡ Some y)
 and_then g None y e = none_some y e
 and_then g (Some x) y e = (x, refl, e)
 
-when_true : (c : Bool) (g : Begins) (b after : List (List ℕ)) → when c g b ≡ Some after → (c ≡ true) × (g b ≡ Some after)
+pub when_true : (c : Bool) (g : Begins) (b after : List (List ℕ)) → when c g b ≡ Some after → (c ≡ true) × (g b ≡ Some after)
 when_true true g b after e = (refl, e)
 when_true false g b after e = none_some after e
 
-placed_roll : (x : open_schema.Schema-F Schema Field) → placed (roll-Schema x) ≡ place_level (map-Schema Schema Field Placing Placing placed placed_field x)
+pub placed_roll : (x : open_schema.Schema-F Schema Field) → placed (roll-Schema x) ≡ place_level (map-Schema Schema Field Placing Placing placed placed_field x)
 placed_roll x = fold-roll-Schema Placing Placing place_level place_field x
 
-placed_field_roll : (x : open_schema.Field-F Schema Field) → placed_field (roll-Field x) ≡ place_field (map-Field Schema Field Placing Placing placed placed_field x)
+pub placed_field_roll : (x : open_schema.Field-F Schema Field) → placed_field (roll-Field x) ≡ place_field (map-Field Schema Field Placing Placing placed placed_field x)
 placed_field_roll x = fold-roll-Field Placing Placing place_level place_field x
 
-once_roll : (x : open_schema.Schema-F Schema Field) → once (roll-Schema x) ≡ once_level (map-Schema Schema Field Begins Begins once once_field x)
+pub once_roll : (x : open_schema.Schema-F Schema Field) → once (roll-Schema x) ≡ once_level (map-Schema Schema Field Begins Begins once once_field x)
 once_roll x = fold-roll-Schema Begins Begins once_level once_field_level x
 
-once_field_roll : (x : open_schema.Field-F Schema Field) → once_field (roll-Field x) ≡ once_field_level (map-Field Schema Field Begins Begins once once_field x)
+pub once_field_roll : (x : open_schema.Field-F Schema Field) → once_field (roll-Field x) ≡ once_field_level (map-Field Schema Field Begins Begins once once_field x)
 once_field_roll x = fold-roll-Field Begins Begins once_level once_field_level x
 
 -- ---- one after the other
@@ -287,12 +287,12 @@ bytes_level logical depth space f b after l left begun placing =
 
 -- ---- named types
 
-one_name_is : (b : Bool) (name : List ℕ) (begun after : List (List ℕ)) → has_begun name begun ≡ b → one_name name begun ≡ Some after → (has_begun name begun ≡ false) × (begun ++ name ∷ [] ≡ after)
+pub one_name_is : (b : Bool) (name : List ℕ) (begun after : List (List ℕ)) → has_begun name begun ≡ b → one_name name begun ≡ Some after → (has_begun name begun ≡ false) × (begun ++ name ∷ [] ≡ after)
 one_name_is true name begun after e h = none_some after (sym (ap (λ (c : Bool). if c then None else Some (begun ++ name ∷ [])) e) ∙ h)
 one_name_is false name begun after e h = (e, same_some (begun ++ name ∷ []) after (sym (ap (λ (c : Bool). if c then None else Some (begun ++ name ∷ [])) e) ∙ h))
 
 -- a named type that didn't stand before is written out
-named_out : (name : List ℕ) (w : Writing Data) (b : List (List ℕ)) → has_begun name b ≡ false → named name w b ≡ w (b ++ name ∷ [])
+pub named_out : (name : List ℕ) (w : Writing Data) (b : List (List ℕ)) → has_begun name b ≡ false → named name w b ≡ w (b ++ name ∷ [])
 unfolding named
 named_out name w b e = ap (λ (c : Bool). if c then (let p : Data × List (List ℕ) = (name_data name, b) in p) else w (b ++ name ∷ [])) e
 
@@ -617,7 +617,7 @@ fields y = field_reads y.name y.id y.schema
 pub schema_reads : (s : Schema) → Reads s
 schema_reads s = by_levels Reads ReadsField levels fields s
 
-some_of : {A : Type 0} (o : Option A) → is_some o ≡ true → (x : A) × (o ≡ Some x)
+pub some_of : {A : Type 0} (o : Option A) → is_some o ≡ true → (x : A) × (o ≡ Some x)
 some_of None e = absurd cc
 some_of (Some x) e = (x, refl)
 

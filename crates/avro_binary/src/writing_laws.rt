@@ -3,8 +3,8 @@ ghost use Rattle.std.specs.Prelude.{◌≡◌, ℕ, List, ◌++◌, ◌^◌, ◌
 ghost use Rattle.avro_binary.specs.declared.datum.Datum.{Datum as Tree};
 ghost use Rattle.avro_binary.specs.declared.schema.Schema.{Schema as Types};
 ghost use Rattle.avro_binary.specs.Shape.{Shape};
-ghost use Rattle.avro_binary.specs.SchemaText.{schema_of};
-ghost use Rattle.avro_binary.specs.SchemaData.{data_of};
+ghost use Rattle.avro_binary.specs.SchemaText.{schema_of, schema_from};
+ghost use Rattle.avro_binary.specs.SchemaData.{data_of, schema_text};
 ghost use Rattle.avro_binary.specs.SchemaOnce.{has_text};
 ghost use Rattle.avro_binary.specs.Reading.{datum_at};
 ghost use Rattle.avro_binary.specs.Grammar.{IsNumber, Reads};
@@ -23,7 +23,8 @@ pub fn what_is_written_is_read()
     ensures grammar { (s : Shape) (d : Tree) (rest : List ℕ) → IsTrue (items_take_bytes s) → Fits s d → length (spelling d) < 2 ^ 63 → Reads s (spelling d ++ rest) d rest }
 {}
 
-/// The JSON of a schema is read as the schema.
-pub fn the_json_of_a_schema_is_read()
-    ensures { (s : Types) → IsTrue (has_text s) → schema_of (data_of s) ≡ Ok s }
+/// The JSON of a schema is read as the schema, and so is its text, where no named type stands twice.
+pub fn the_text_of_a_schema_is_read()
+    ensures json { (s : Types) → IsTrue (has_text s) → schema_of (data_of s) ≡ Ok s }
+    ensures text { (s : Types) → IsTrue (has_text s) → schema_from (schema_text s) ≡ Ok s }
 {}
