@@ -16,3 +16,4 @@ pub mod SchemaFloats
 pub mod SchemaLaws
 pub mod JsonTexts
 pub mod SchemaTexts
+pub mod FittingLaws

@@ -43,5 +43,5 @@ pub use schema_writer::write_schema;
 pub use write::write_datum;
 
 pub use writing::put_each;
-pub use writing_laws::{numbers_are_spelled_shortest, the_text_of_a_schema_is_read, what_is_written_is_read};
+pub use writing_laws::{numbers_are_spelled_shortest, the_text_of_a_schema_is_read, what_is_read_fits, what_is_written_is_read};
 pub use writing_leaf::{put_bytes, put_counted, put_natural};

@@ -28,3 +28,8 @@ pub fn the_text_of_a_schema_is_read()
     ensures json { (s : Types) → IsTrue (has_text s) → schema_of (data_of s) ≡ Ok s }
     ensures text { (s : Types) → IsTrue (has_text s) → schema_from (schema_text s) ≡ Ok s }
 {}
+
+/// A datum that is read is of the schema, so it can be written.
+pub fn what_is_read_fits()
+    ensures { (s : Shape) (bytes : List ℕ) (d : Tree) (rest : List ℕ) → Reads s bytes d rest → Fits s d }
+{}
