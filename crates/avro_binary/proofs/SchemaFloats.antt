@@ -1,11 +1,11 @@
 -- Induction over schemas, and that the JSON of a schema has no float.
-use Rattle.std.proofs.Common.{◌≡◌, ℕ, ◌≤◌, ℤ, pos, negsuc, Bool, true, false, ◌||◌, List, [], ◌∷◌, ◌++◌, length, map, Option, Some, None, codes, refl, sym, ap, subst, ◌∙◌}
+use Rattle.std.proofs.Common.{◌≡◌, ℕ, ◌≤◌, ℤ, pos, negsuc, Bool, true, false, ◌||◌, List, [], ◌∷◌, ◌++◌, map, Option, Some, None, codes, refl, sym, ap, subst, ◌∙◌}
 use Rattle.std.specs.Prelude.{if◌then◌else◌}
 use Rattle.std.specs.Ordering.{nat_cmp, match_ordering}
 use Rattle.std.specs.declared.cmp.Ordering.{Ordering}
 use Rattle.std.specs.declared.cmp.Ordering.TheVariants as ordering
 use Rattle.std.specs.Cmp.Lexicographic.{slice_cmp}
-use Rattle.serde_json.specs.Data.{Data, unsigned, boolean, number, string, array, object, Members, no_members, member, put, depth}
+use Rattle.serde_json.specs.Data.{Data, unsigned, boolean, number, string, array, Members, no_members, member, put, depth}
 use Rattle.std.specs.Str.{IsUtf8}
 use Rattle.std.proofs.lemmas.Str.{is_utf8-from_IsUtf8}
 use Rattle.serde_json.specs.Find.{of_integer}
@@ -19,7 +19,7 @@ use Rattle.avro_binary.specs.declared.schema.Schema.TheOpen as open_schema
 use Rattle.avro_binary.specs.declared.schema.Field.{Field, roll-Field}
 use Rattle.avro_binary.specs.declared.schema.Logical.{Logical}
 use Rattle.avro_binary.specs.declared.schema.Logical.TheVariants.{Plain, Date, TimestampMicros, Decimal, Other}
-use Rattle.avro_binary.specs.SchemaData.{Writing, name_data, type_key, with_id, with_logical, with_map, named_keys, primitive, symbols, write_each, named, record_written, enum_written, fixed_written, written_level, field_level, written, written_field, data_of, schema_text}
+use Rattle.avro_binary.specs.SchemaData.{Writing, name_data, type_key, with_id, with_logical, with_map, named_keys, symbols, write_each, named, record_written, enum_written, fixed_written, written_level, field_level, written, written_field, data_of, schema_text}
 use Rattle.avro_binary.specs.Naming.{has_begun}
 
 -- ---- induction

@@ -1,14 +1,14 @@
 -- The JSON of a schema is read as the schema.
-use Rattle.std.proofs.Common.{◌≡◌, ℕ, zero, suc, ◌+◌, ◌-◌, ◌^◌, ◌<◌, ◌≤◌, ltb, ◌⊎◌, inl, inr, ℤ, pos, negsuc, Bool, true, false, not, cond, ◌&&◌, ◌||◌, eqb, List, [], ◌∷◌, ◌++◌, length, map, take, Option, Some, None, Result, Ok, Err, codes, refl, sym, ap, subst, ◌∙◌, arith}
-use Rattle.std.specs.Prelude.{if◌then◌else◌, option_and_then, unwrap_or, is_some, nat_le, nat_lt}
+use Rattle.std.proofs.Common.{◌≡◌, ℕ, zero, suc, ◌-◌, ◌^◌, ltb, inl, inr, ℤ, pos, negsuc, Bool, true, false, not, ◌&&◌, ◌||◌, eqb, List, [], ◌∷◌, ◌++◌, length, map, take, Option, Some, None, Result, Ok, Err, codes, refl, sym, ap, ◌∙◌, arith}
+use Rattle.std.specs.Prelude.{if◌then◌else◌, option_and_then, unwrap_or, is_some, nat_lt}
 use Rattle.std.specs.List.{list_all}
-use Rattle.std.specs.Str.{bytes_eq, is_utf8, IsUtf8}
+use Rattle.std.specs.Str.{bytes_eq, is_utf8}
 use Rattle.std.specs.Str.Lossy.{utf8_lossy}
 use Rattle.std.proofs.lemmas.Slice.Eq.{bytes_eq-Decides}
 use Rattle.std.proofs.lemmas.Bool.{cases_lt, lt-ltb, le-leb, lt-leb}
 use Rattle.std.proofs.lemmas.Str.{IsUtf8-from_is_utf8, utf8_lossy-IsUtf8, utf8_lossy_empty}
-use Rattle.serde_json.specs.Data.{Data, unsigned, boolean, number, string, array, object, Items, no_items, item, Members, no_members, member, put}
-use Rattle.serde_json.specs.Find.{get, as_str, as_array, as_number, as_i64, of_integer}
+use Rattle.serde_json.specs.Data.{Data, unsigned, number, string, array, object, Items, Members, no_members, put}
+use Rattle.serde_json.specs.Find.{get, as_array, as_i64, of_integer}
 use Rattle.serde_json.specs.View.{items_of}
 use Rattle.avro_binary.specs.declared.schema_fault.SchemaFault.{SchemaFault}
 use Rattle.avro_binary.specs.declared.schema_fault.SchemaFault.TheVariants.{Shape, Depth}
@@ -21,12 +21,11 @@ use Rattle.avro_binary.specs.declared.schema.Schema.TheVariants as schema
 use Rattle.avro_binary.specs.declared.schema.Field.{Field, roll-Field}
 use Rattle.avro_binary.specs.declared.schema.Logical.{Logical}
 use Rattle.avro_binary.specs.declared.schema.Logical.TheVariants.{Plain, Date, TimestampMicros, Decimal, Other}
-use Rattle.avro_binary.specs.declared.word.Word as words
 use Rattle.avro_binary.specs.Word.{word_of}
 use Rattle.avro_binary.specs.Naming.{space_of, last_dot, full_name, has_begun}
 use Rattle.avro_binary.specs.Placed.{Placing, place_each, place_inner, place_level, place_field, placed, placed_field}
-use Rattle.avro_binary.specs.SchemaText.{◌>>=◌, needed, node, text_at, narrow, id_at, decimal, logical_named, logical_of, is_map, type_name, defined_name, used, begin, finish, Nodes, Reader, each, symbol, field, record_node, enum_node, fixed_node, array_node, map_node, union_node, typed, single, schema_at, start, schema_of}
-use Rattle.avro_binary.specs.SchemaData.{Writing, name_data, type_key, with_id, with_logical, with_map, named_keys, primitive, symbols, write_each, named, record_written, enum_written, fixed_written, array_written, map_written, union_written, written_level, field_level, written, written_field, data_of}
+use Rattle.avro_binary.specs.SchemaText.{◌>>=◌, needed, node, text_at, narrow, id_at, decimal, logical_named, logical_of, is_map, type_name, defined_name, used, begin, finish, Nodes, Reader, each, symbol, field, record_node, enum_node, fixed_node, array_node, map_node, union_node, typed, single, schema_at, schema_of}
+use Rattle.avro_binary.specs.SchemaData.{Writing, name_data, type_key, with_id, with_logical, with_map, primitive, write_each, named, record_written, enum_written, fixed_written, written_level, field_level, written, written_field, data_of}
 use Rattle.avro_binary.specs.SchemaOnce.{is_logical, is_id, Begins, when, no_name, one_name, each_once, once_level, once_field_level, once, once_field, has_text}
 use Rattle.avro_binary.proofs.Loops.{ne-eqb}
 use Rattle.avro_binary.proofs.SchemaFloats.{Proved, ProvedField, by_levels, written_roll, written_field_roll}
@@ -191,9 +190,11 @@ each_reads {X = X} step write begins place depth Q law (e ∷ es) f b after l le
     let p = and_then (place_each (map place xs) depth) (place e.0 depth l) left placing in
     let first = law e.0 e.1 f b o.0 l p.0 o.1 p.1 in
     let others = each_reads step write begins place depth Q law es first.0 o.0 after p.0 left o.2 p.2 in
-    let more : List (List ℕ) → X × Names → Result (List X × Names) SchemaFault = λ n x. each step (items_of (write_each (map write xs) n).0) x.1 >>= λ ys. Ok (x.0 ∷ ys.0, ys.1) in
-    (others.0, ap (λ (n : List (List ℕ)). (write_each (map write xs) n).1) first.1 ∙ others.1,
-    ap (λ r. r >>= more (write e.0 b).1) first.2 ∙ ap (λ (n : List (List ℕ)). more n (e.0, names_of first.0 o.0 p.0)) first.1 ∙ ap (λ r. r >>= λ ys. Ok (e.0 ∷ ys.0, ys.1)) others.2)
+    let more : List (List ℕ) → X × Names → Result (List X × Names) SchemaFault = λ n x. each step (items_of (write_each (map write xs) n).0) x.1 >>= λ ys. Ok (x.0 ∷ ys.0, ys.1) in (
+      others.0,
+      ap (λ (n : List (List ℕ)). (write_each (map write xs) n).1) first.1 ∙ others.1,
+      ap (λ r. r >>= more (write e.0 b).1) first.2 ∙ ap (λ (n : List (List ℕ)). more n (e.0, names_of first.0 o.0 p.0)) first.1 ∙ ap (λ r. r >>= λ ys. Ok (e.0 ∷ ys.0, ys.1)) others.2,
+    )
 
 -- ---- a node
 
@@ -231,9 +232,11 @@ at_level x law zero space f b after l left begun placing = none_some left (sym (
 at_level x law (suc depth) space f b after zero left begun placing = none_some left (sym (ap (λ (p : Placing). p (suc depth) zero) (placed_roll x)) ∙ placing)
 at_level x law (suc depth) space f b after (suc l) left begun placing =
     let is : written (roll-Schema x) ≡ level_of x = written_roll x in
-    let r = law depth space f b after l left (sym (ap (λ (o : Begins). o b) (once_roll x)) ∙ begun) (sym (ap (λ (p : Placing). p (suc depth) (suc l)) (placed_roll x)) ∙ placing) in
-    (r.0, ap (λ (w : Writing Data). (w b).1) is ∙ r.1,
-    ap (λ (w : Writing Data). schema_at (suc depth) space (w b).0 (names_of f b (suc l))) is ∙ one_deeper depth space (level_of x b).0 f b l ∙ r.2)
+    let r = law depth space f b after l left (sym (ap (λ (o : Begins). o b) (once_roll x)) ∙ begun) (sym (ap (λ (p : Placing). p (suc depth) (suc l)) (placed_roll x)) ∙ placing) in (
+      r.0,
+      ap (λ (w : Writing Data). (w b).1) is ∙ r.1,
+      ap (λ (w : Writing Data). schema_at (suc depth) space (w b).0 (names_of f b (suc l))) is ∙ one_deeper depth space (level_of x b).0 f b l ∙ r.2,
+    )
 
 -- a node with nothing inside
 leaf : (s t : Schema) (f : List Named) (b after : List (List ℕ)) (l left : ℕ) → s ≡ t → b ≡ after → l ≡ left → got s (used (names_of f b (suc l))) ≡ Ok (t, names_of f after left)
@@ -264,26 +267,32 @@ primitive_type word logical = type_of word logical
 int_level : (logical : Logical) → AtLevel (open_schema.Int logical)
 unfolding typed
 int_level logical depth space f b after l left begun placing =
-    let o = when_true (is_logical logical) no_name b after begun in
-    (f, same_some b after o.1,
-    single_of (schema_at depth) (suc depth) space (primitive (codes "int") logical) (names_of f b (suc l)) (codes "int") (primitive_type (codes "int") logical)
-    ∙ leaf (schema.Int (logical_of (primitive (codes "int") logical))) (roll-Schema (open_schema.Int logical)) f b after l left (ap (λ (g : Logical). schema.Int g) (logical_is (codes "int") logical o.0) ∙ sym (schema.rolls-Int logical)) (same_some b after o.1) (same_some l left placing))
+    let o = when_true (is_logical logical) no_name b after begun in (
+      f,
+      same_some b after o.1,
+      single_of (schema_at depth) (suc depth) space (primitive (codes "int") logical) (names_of f b (suc l)) (codes "int") (primitive_type (codes "int") logical)
+          ∙ leaf (schema.Int (logical_of (primitive (codes "int") logical))) (roll-Schema (open_schema.Int logical)) f b after l left (ap (λ (g : Logical). schema.Int g) (logical_is (codes "int") logical o.0) ∙ sym (schema.rolls-Int logical)) (same_some b after o.1) (same_some l left placing),
+    )
 
 long_level : (logical : Logical) → AtLevel (open_schema.Long logical)
 unfolding typed
 long_level logical depth space f b after l left begun placing =
-    let o = when_true (is_logical logical) no_name b after begun in
-    (f, same_some b after o.1,
-    single_of (schema_at depth) (suc depth) space (primitive (codes "long") logical) (names_of f b (suc l)) (codes "long") (primitive_type (codes "long") logical)
-    ∙ leaf (schema.Long (logical_of (primitive (codes "long") logical))) (roll-Schema (open_schema.Long logical)) f b after l left (ap (λ (g : Logical). schema.Long g) (logical_is (codes "long") logical o.0) ∙ sym (schema.rolls-Long logical)) (same_some b after o.1) (same_some l left placing))
+    let o = when_true (is_logical logical) no_name b after begun in (
+      f,
+      same_some b after o.1,
+      single_of (schema_at depth) (suc depth) space (primitive (codes "long") logical) (names_of f b (suc l)) (codes "long") (primitive_type (codes "long") logical)
+          ∙ leaf (schema.Long (logical_of (primitive (codes "long") logical))) (roll-Schema (open_schema.Long logical)) f b after l left (ap (λ (g : Logical). schema.Long g) (logical_is (codes "long") logical o.0) ∙ sym (schema.rolls-Long logical)) (same_some b after o.1) (same_some l left placing),
+    )
 
 bytes_level : (logical : Logical) → AtLevel (open_schema.Bytes logical)
 unfolding typed
 bytes_level logical depth space f b after l left begun placing =
-    let o = when_true (is_logical logical) no_name b after begun in
-    (f, same_some b after o.1,
-    single_of (schema_at depth) (suc depth) space (primitive (codes "bytes") logical) (names_of f b (suc l)) (codes "bytes") (primitive_type (codes "bytes") logical)
-    ∙ leaf (schema.Bytes (logical_of (primitive (codes "bytes") logical))) (roll-Schema (open_schema.Bytes logical)) f b after l left (ap (λ (g : Logical). schema.Bytes g) (logical_is (codes "bytes") logical o.0) ∙ sym (schema.rolls-Bytes logical)) (same_some b after o.1) (same_some l left placing))
+    let o = when_true (is_logical logical) no_name b after begun in (
+      f,
+      same_some b after o.1,
+      single_of (schema_at depth) (suc depth) space (primitive (codes "bytes") logical) (names_of f b (suc l)) (codes "bytes") (primitive_type (codes "bytes") logical)
+          ∙ leaf (schema.Bytes (logical_of (primitive (codes "bytes") logical))) (roll-Schema (open_schema.Bytes logical)) f b after l left (ap (λ (g : Logical). schema.Bytes g) (logical_is (codes "bytes") logical o.0) ∙ sym (schema.rolls-Bytes logical)) (same_some b after o.1) (same_some l left placing),
+    )
 
 -- ---- named types
 
@@ -337,11 +346,12 @@ record_level name es depth space f b after l left begun placing =
     let e3 : goal (d s name) ≡ record_node (schema_at depth) space (d s name) (names_of f b (suc l)) = single_of (schema_at depth) (suc depth) space (d s name) (names_of f b (suc l)) (codes "record") (record_type s name items) in
     let e4 : record_node (schema_at depth) space (d s name) (names_of f b (suc l)) ≡ recorded (schema_at depth) items name (used (names_of f b (suc l))) = record_is (schema_at depth) space s name items (names_of f b (suc l)) ∙ ap (λ (n : List ℕ). recorded (schema_at depth) items n (used (names_of f b (suc l)))) (named_full name) in
     let e5 : recorded (schema_at depth) items name (used (names_of f b (suc l))) ≡ Ok (finish name (schema.Record name fields) (names_of inner.0 after left)) =
-        ap (λ r. r >>= λ begun. each (field (schema_at depth) (space_of name)) items begun >>= λ x. Ok (finish name (schema.Record name x.0) x.1)) (begin_of name f b l new.0)
-        ∙ ap (λ r. r >>= λ x. Ok (finish name (schema.Record name x.0) x.1)) inner.2 in
-    (inner.0 ++ record { name = name; schema = schema.Record name fields } ∷ [],
-    ap (λ (x : Data × List (List ℕ)). x.1) out ∙ inner.1,
-    e1 ∙ e2 ∙ e3 ∙ e4 ∙ e5 ∙ ap (λ (x : Schema). got x (names_of (inner.0 ++ record { name = name; schema = schema.Record name fields } ∷ []) after left)) (sym (schema.rolls-Record name fields)))
+    ap (λ r. r >>= λ begun. each (field (schema_at depth) (space_of name)) items begun >>= λ x. Ok (finish name (schema.Record name x.0) x.1)) (begin_of name f b l new.0)
+    ∙ ap (λ r. r >>= λ x. Ok (finish name (schema.Record name x.0) x.1)) inner.2 in (
+      inner.0 ++ record { name = name; schema = schema.Record name fields } ∷ [],
+      ap (λ (x : Data × List (List ℕ)). x.1) out ∙ inner.1,
+      e1 ∙ e2 ∙ e3 ∙ e4 ∙ e5 ∙ ap (λ (x : Schema). got x (names_of (inner.0 ++ record { name = name; schema = schema.Record name fields } ∷ []) after left)) (sym (schema.rolls-Record name fields)),
+    )
 
 -- ---- enums and fixed
 
@@ -382,12 +392,13 @@ enum_level name ns depth space f b after l left begun placing =
     let e3 : goal (d s name) ≡ enum_node space (d s name) (names_of f b (suc l)) = single_of (schema_at depth) (suc depth) space (d s name) (names_of f b (suc l)) (codes "enum") (enum_type s name items) in
     let e4 : enum_node space (d s name) (names_of f b (suc l)) ≡ listed items name (used (names_of f b (suc l))) = enum_is space s name items (names_of f b (suc l)) ∙ ap (λ (n : List ℕ). listed items n (used (names_of f b (suc l)))) (named_full name) in
     let e5 : listed items name (used (names_of f b (suc l))) ≡ Ok (finish name (schema.Enum name ns) (names_of f (b ++ name ∷ []) l)) =
-        ap (λ r. r >>= λ begun. each symbol items begun >>= λ x. Ok (finish name (schema.Enum name x.0) x.1)) (begin_of name f b l new.0)
-        ∙ ap (λ r. r >>= λ x. Ok (finish name (schema.Enum name x.0) x.1)) (symbols_read ns (names_of f (b ++ name ∷ []) l) u.1) in
-    let finished : List Named = f ++ record { name = name; schema = schema.Enum name ns } ∷ [] in
-    (finished,
-    ap (λ (x : Data × List (List ℕ)). x.1) out ∙ new.1,
-    e1 ∙ e2 ∙ e3 ∙ e4 ∙ e5 ∙ ap (λ (n : List (List ℕ)). got (schema.Enum name ns) (names_of finished n l)) new.1 ∙ ap (λ (n : ℕ). got (schema.Enum name ns) (names_of finished after n)) same ∙ ap (λ (x : Schema). got x (names_of finished after left)) (sym (schema.rolls-Enum name ns)))
+    ap (λ r. r >>= λ begun. each symbol items begun >>= λ x. Ok (finish name (schema.Enum name x.0) x.1)) (begin_of name f b l new.0)
+    ∙ ap (λ r. r >>= λ x. Ok (finish name (schema.Enum name x.0) x.1)) (symbols_read ns (names_of f (b ++ name ∷ []) l) u.1) in
+    let finished : List Named = f ++ record { name = name; schema = schema.Enum name ns } ∷ [] in (
+      finished,
+      ap (λ (x : Data × List (List ℕ)). x.1) out ∙ new.1,
+      e1 ∙ e2 ∙ e3 ∙ e4 ∙ e5 ∙ ap (λ (n : List (List ℕ)). got (schema.Enum name ns) (names_of finished n l)) new.1 ∙ ap (λ (n : ℕ). got (schema.Enum name ns) (names_of finished after n)) same ∙ ap (λ (x : Schema). got x (names_of finished after left)) (sym (schema.rolls-Enum name ns)),
+    )
 
 fixed_done : ℕ → Logical → List ℕ → Names → Nodes
 fixed_done size logical full names = begin full names >>= λ begun. Ok (finish full (schema.Fixed full size logical) begun)
@@ -425,15 +436,16 @@ fixed_level name size logical depth space f b after l left begun placing =
     let e2 : goal (d (utf8_lossy name)) ≡ goal (d name) = ap (λ (n : List ℕ). goal (d n)) (lossless name u.0) in
     let e3 : goal (d name) ≡ fixed_node space (d name) (names_of f b (suc l)) = single_of (schema_at depth) (suc depth) space (d name) (names_of f b (suc l)) (codes "fixed") (fixed_type s name size logical) in
     let e4 : fixed_node space (d name) (names_of f b (suc l)) ≡ fixed_done size logical name (used (names_of f b (suc l))) =
-        fixed_is space s name size logical (names_of f b (suc l)) ∙ ap (λ (n : List ℕ). fixed_done size (logical_of (d name)) n (used (names_of f b (suc l)))) (named_full name)
-        ∙ ap (λ (h : Logical). fixed_done size h name (used (names_of f b (suc l)))) (fixed_logical_is s name size logical g.0) in
+    fixed_is space s name size logical (names_of f b (suc l)) ∙ ap (λ (n : List ℕ). fixed_done size (logical_of (d name)) n (used (names_of f b (suc l)))) (named_full name)
+    ∙ ap (λ (h : Logical). fixed_done size h name (used (names_of f b (suc l)))) (fixed_logical_is s name size logical g.0) in
     let e5 : fixed_done size logical name (used (names_of f b (suc l))) ≡ Ok (finish name (schema.Fixed name size logical) (names_of f (b ++ name ∷ []) l)) =
-        ap (λ r. r >>= λ begun. Ok (finish name (schema.Fixed name size logical) begun)) (begin_of name f b l new.0) in
-    let finished : List Named = f ++ record { name = name; schema = schema.Fixed name size logical } ∷ [] in
-    (finished,
-    ap (λ (x : Data × List (List ℕ)). x.1) out ∙ new.1,
-    e1 ∙ e2 ∙ e3 ∙ e4 ∙ e5 ∙ ap (λ (n : List (List ℕ)). got (schema.Fixed name size logical) (names_of finished n l)) new.1 ∙ ap (λ (n : ℕ). got (schema.Fixed name size logical) (names_of finished after n)) same
-    ∙ ap (λ (x : Schema). got x (names_of finished after left)) (sym (schema.rolls-Fixed name size logical)))
+    ap (λ r. r >>= λ begun. Ok (finish name (schema.Fixed name size logical) begun)) (begin_of name f b l new.0) in
+    let finished : List Named = f ++ record { name = name; schema = schema.Fixed name size logical } ∷ [] in (
+      finished,
+      ap (λ (x : Data × List (List ℕ)). x.1) out ∙ new.1,
+      e1 ∙ e2 ∙ e3 ∙ e4 ∙ e5 ∙ ap (λ (n : List (List ℕ)). got (schema.Fixed name size logical) (names_of finished n l)) new.1 ∙ ap (λ (n : ℕ). got (schema.Fixed name size logical) (names_of finished after n)) same
+          ∙ ap (λ (x : Schema). got x (names_of finished after left)) (sym (schema.rolls-Fixed name size logical)),
+    )
 
 -- ---- arrays, maps and unions
 
@@ -481,15 +493,17 @@ array_level e element map depth space f b after l left begun placing =
     let inner = e.1 depth space f b after l left o.1 placing in
     let i : Data = (written e.0 b).0 in
     let d : Data = array_data i element map in
-    let names : Names = names_of f b (suc l) in
-    (inner.0, inner.1,
-    single_of (schema_at depth) (suc depth) space d names (codes "array") (array_type i element map)
-    ∙ array_is (schema_at depth) space i element map names
-    ∙ ap (λ (x : Option ℤ). arrayed (schema_at depth) space i x (is_map d) (used names)) (array_element i element map o.0)
-    ∙ ap (λ (x : Bool). arrayed (schema_at depth) space i element x (used names)) (array_map i element map)
-    ∙ ap (λ (n : Names). arrayed (schema_at depth) space i element map n) (used_is f b l)
-    ∙ ap (λ r. r >>= λ x. Ok (schema.Array x.0 element map, x.1)) inner.2
-    ∙ ap (λ (x : Schema). got x (names_of inner.0 after left)) (sym (schema.rolls-Array e.0 element map)))
+    let names : Names = names_of f b (suc l) in (
+      inner.0,
+      inner.1,
+      single_of (schema_at depth) (suc depth) space d names (codes "array") (array_type i element map)
+          ∙ array_is (schema_at depth) space i element map names
+          ∙ ap (λ (x : Option ℤ). arrayed (schema_at depth) space i x (is_map d) (used names)) (array_element i element map o.0)
+          ∙ ap (λ (x : Bool). arrayed (schema_at depth) space i element x (used names)) (array_map i element map)
+          ∙ ap (λ (n : Names). arrayed (schema_at depth) space i element map n) (used_is f b l)
+          ∙ ap (λ r. r >>= λ x. Ok (schema.Array x.0 element map, x.1)) inner.2
+          ∙ ap (λ (x : Schema). got x (names_of inner.0 after left)) (sym (schema.rolls-Array e.0 element map)),
+    )
 
 map_data : Data → Option ℤ → Option ℤ → Data
 map_data inner key value = object (with_id (codes "value-id") value (with_id (codes "key-id") key (put (codes "values") inner (type_key (codes "map")))))
@@ -533,15 +547,17 @@ map_level e key value depth space f b after l left begun placing =
     let inner = e.1 depth space f b after l left o.1 placing in
     let i : Data = (written e.0 b).0 in
     let d : Data = map_data i key value in
-    let names : Names = names_of f b (suc l) in
-    (inner.0, inner.1,
-    single_of (schema_at depth) (suc depth) space d names (codes "map") (map_type i key value)
-    ∙ map_is (schema_at depth) space i key value names
-    ∙ ap (λ (x : Option ℤ). mapped (schema_at depth) space i x (id_at (codes "value-id") d) (used names)) (map_key i key value ids.0)
-    ∙ ap (λ (x : Option ℤ). mapped (schema_at depth) space i key x (used names)) (map_value i key value ids.1)
-    ∙ ap (λ (n : Names). mapped (schema_at depth) space i key value n) (used_is f b l)
-    ∙ ap (λ r. r >>= λ x. Ok (schema.Map x.0 key value, x.1)) inner.2
-    ∙ ap (λ (x : Schema). got x (names_of inner.0 after left)) (sym (schema.rolls-Map e.0 key value)))
+    let names : Names = names_of f b (suc l) in (
+      inner.0,
+      inner.1,
+      single_of (schema_at depth) (suc depth) space d names (codes "map") (map_type i key value)
+          ∙ map_is (schema_at depth) space i key value names
+          ∙ ap (λ (x : Option ℤ). mapped (schema_at depth) space i x (id_at (codes "value-id") d) (used names)) (map_key i key value ids.0)
+          ∙ ap (λ (x : Option ℤ). mapped (schema_at depth) space i key x (used names)) (map_value i key value ids.1)
+          ∙ ap (λ (n : Names). mapped (schema_at depth) space i key value n) (used_is f b l)
+          ∙ ap (λ r. r >>= λ x. Ok (schema.Map x.0 key value, x.1)) inner.2
+          ∙ ap (λ (x : Schema). got x (names_of inner.0 after left)) (sym (schema.rolls-Map e.0 key value)),
+    )
 
 union_is : (reader : Reader) (space : List ℕ) (items : Items) (names : Names) → union_node reader space items names ≡ (each (reader space) items (used names) >>= λ inner. Ok (schema.Union inner.0, inner.1))
 unfolding union_node
@@ -551,12 +567,14 @@ union_level : (es : List (Proved Reads)) → AtLevel (open_schema.Union (map (λ
 union_level es depth space f b after l left begun placing =
     let branches : List Schema = map (λ (e : Proved Reads). e.0) es in
     let inner = each_reads (schema_at depth space) written once placed depth Reads (λ x q. q depth space) es f b after l left begun placing in
-    let items : Items = items_of (write_each (map written branches) b).0 in
-    (inner.0, inner.1,
-    union_is (schema_at depth) space items (names_of f b (suc l))
-    ∙ ap (λ (n : Names). each (schema_at depth space) items n >>= λ x. Ok (schema.Union x.0, x.1)) (used_is f b l)
-    ∙ ap (λ r. r >>= λ x. Ok (schema.Union x.0, x.1)) inner.2
-    ∙ ap (λ (x : Schema). got x (names_of inner.0 after left)) (sym (schema.rolls-Union branches)))
+    let items : Items = items_of (write_each (map written branches) b).0 in (
+      inner.0,
+      inner.1,
+      union_is (schema_at depth) space items (names_of f b (suc l))
+          ∙ ap (λ (n : Names). each (schema_at depth space) items n >>= λ x. Ok (schema.Union x.0, x.1)) (used_is f b l)
+          ∙ ap (λ r. r >>= λ x. Ok (schema.Union x.0, x.1)) inner.2
+          ∙ ap (λ (x : Schema). got x (names_of inner.0 after left)) (sym (schema.rolls-Union branches)),
+    )
 
 -- ---- fields
 
@@ -588,14 +606,16 @@ field_reads name id e depth space f b after l left begun placing =
     let inner = e.1 depth space f b after l left o.1 (sym (ap (λ (p : Placing). p depth l) (placed_field_roll x)) ∙ placing) in
     let is : written_field (roll-Field x) ≡ field_level (map-Field Schema Field (Writing Data) (Writing Data) written written_field x) = written_field_roll x in
     let i : Data = (written e.0 b).0 in
-    let names : Names = names_of f b l in
-    (inner.0, ap (λ (w : Writing Data). (w b).1) is ∙ inner.1,
-    ap (λ (w : Writing Data). field (schema_at depth) space (w b).0 names) is
-    ∙ ap (λ (n : List ℕ). field (schema_at depth) space (field_data n id i) names) (lossless name u.0)
-    ∙ field_is (schema_at depth) space name id i names
-    ∙ ap (λ (k : Option ℤ). fielded (schema_at depth) space name k i names) (field_id name id i u.1)
-    ∙ ap (λ r. r >>= λ y. Ok (record { name = name; id = id; schema = y.0 }, y.1)) inner.2
-    ∙ ap (λ (g : Field). got g (names_of inner.0 after left)) (field_made name id e.0))
+    let names : Names = names_of f b l in (
+      inner.0,
+      ap (λ (w : Writing Data). (w b).1) is ∙ inner.1,
+      ap (λ (w : Writing Data). field (schema_at depth) space (w b).0 names) is
+          ∙ ap (λ (n : List ℕ). field (schema_at depth) space (field_data n id i) names) (lossless name u.0)
+          ∙ field_is (schema_at depth) space name id i names
+          ∙ ap (λ (k : Option ℤ). fielded (schema_at depth) space name k i names) (field_id name id i u.1)
+          ∙ ap (λ r. r >>= λ y. Ok (record { name = name; id = id; schema = y.0 }, y.1)) inner.2
+          ∙ ap (λ (g : Field). got g (names_of inner.0 after left)) (field_made name id e.0),
+    )
 
 pub levels : (y : open_schema.Schema-F (Proved Reads) (ProvedField ReadsField)) → Reads (roll-Schema (map-Schema (Proved Reads) (ProvedField ReadsField) Schema Field (λ e. e.0) (λ e. e.0) y))
 levels open_schema.Null = at_level open_schema.Null null_level

@@ -1,5 +1,5 @@
 -- The text of a schema is read as the schema.
-use Rattle.std.proofs.Common.{◌≡◌, ◌⊎◌, ℕ, zero, suc, max, ◌+◌, ◌-◌, ◌*◌, ◌^◌, ◌<◌, ◌≤◌, ltb, eqb, ℤ, pos, negsuc, Bool, true, false, ◌&&◌, List, [], ◌∷◌, ◌++◌, length, map, take, get_or, Option, Some, None, Ok, codes, refl, sym, ap, subst, ◌∙◌, inl, inr, append_assoc, arith}
+use Rattle.std.proofs.Common.{◌≡◌, ◌⊎◌, ℕ, zero, suc, max, ◌+◌, ◌-◌, ◌*◌, ◌^◌, ◌<◌, ◌≤◌, eqb, ℤ, pos, negsuc, Bool, true, false, ◌&&◌, List, [], ◌∷◌, ◌++◌, length, map, take, get_or, Option, Some, None, Ok, codes, refl, sym, ap, subst, ◌∙◌, inl, inr, append_assoc, arith}
 use Rattle.std.specs.Prelude.{if◌then◌else◌, option_and_then, unwrap_or, is_some, nat_le, nat_lt}
 use Rattle.std.specs.List.{list_all}
 use Rattle.std.specs.Str.{is_utf8, IsUtf8}
@@ -8,7 +8,7 @@ use Rattle.std.specs.Ordering.{nat_cmp, match_ordering}
 use Rattle.std.specs.declared.cmp.Ordering.{Ordering}
 use Rattle.std.specs.declared.cmp.Ordering.TheVariants as ordering
 use Rattle.std.specs.Cmp.Lexicographic.{slice_cmp}
-use Rattle.std.proofs.lemmas.Bool.{cases_lt, ltb-true, leb-true, eqb-true}
+use Rattle.std.proofs.lemmas.Bool.{ltb-true, leb-true, eqb-true}
 use Rattle.std.proofs.lemmas.List.{length-append}
 use Rattle.std.proofs.lemmas.Str.{IsUtf8-from_is_utf8, utf8_lossy-IsUtf8, IsUtf8-nil, IsUtf8-take, IsCharBoundary-before_ascii}
 use Rattle.serde_json.specs.Data.{Data, unsigned, boolean, number, string, array, object, Items, Members, no_members, member, put, depth, items_depth, members_depth}
@@ -22,13 +22,13 @@ use Rattle.avro_binary.specs.declared.schema.Field.{Field, roll-Field}
 use Rattle.avro_binary.specs.declared.schema.Logical.{Logical}
 use Rattle.avro_binary.specs.declared.schema.Logical.TheVariants.{Plain, Date, TimestampMicros, Decimal, Other}
 use Rattle.avro_binary.specs.Naming.{dot_from, last_dot, space_of, has_begun}
-use Rattle.avro_binary.specs.Placed.{Placing, place_each, place_inner, place_field, placed, placed_field}
-use Rattle.avro_binary.specs.SchemaText.{narrow, json_of, schema_in, schema_of, schema_from}
-use Rattle.avro_binary.specs.SchemaData.{Writing, name_data, type_key, with_id, with_logical, with_map, named_keys, primitive, symbols, write_each, named, record_written, enum_written, fixed_written, array_written, map_written, written, written_field, data_of, schema_text}
+use Rattle.avro_binary.specs.Placed.{Placing, place_each, place_inner, placed, placed_field}
+use Rattle.avro_binary.specs.SchemaText.{narrow, json_of, schema_in, schema_from}
+use Rattle.avro_binary.specs.SchemaData.{Writing, name_data, type_key, with_id, with_logical, with_map, named_keys, primitive, symbols, write_each, named, record_written, enum_written, fixed_written, written, written_field, data_of, schema_text}
 use Rattle.avro_binary.specs.SchemaOnce.{is_logical, is_id, Begins, when, one_name, each_once, once, once_field, has_text}
 use Rattle.avro_binary.proofs.SchemaFloats.{Proved, ProvedField, by_levels, written_roll, written_field_roll}
 use Rattle.avro_binary.proofs.SchemaLaws.{lossless, same_some, and_then, when_true, both_true, once_roll, once_field_roll, one_name_is, named_out, some_of, data_read, placed_roll, placed_field_roll, none_some}
-use Rattle.avro_binary.proofs.JsonTexts.{rebuilt, are_ascii, GoodNumber, Good, GoodItems, GoodMembers, is_text, read_text}
+use Rattle.avro_binary.proofs.JsonTexts.{rebuilt, are_ascii, Good, GoodItems, GoodMembers, is_text, read_text}
 
 -- ---- the namespace of a name is text
 
@@ -145,9 +145,10 @@ each_good {X = X} write begins Q law (e ∷ es) b after begun =
     let xs : List X = map (λ (e : (x : X) × Q x). e.0) es in
     let o = and_then (each_once (map begins xs)) (begins e.0 b) after begun in
     let first = law e.0 e.1 b o.0 o.1 in
-    let others = each_good write begins Q law es o.0 after o.2 in
-    (ap (λ (n : List (List ℕ)). (write_each (map write xs) n).1) first.0 ∙ others.0,
-    (first.1, subst (λ (n : List (List ℕ)). GoodItems (items_of (write_each (map write xs) n).0)) (sym first.0) others.1))
+    let others = each_good write begins Q law es o.0 after o.2 in (
+      ap (λ (n : List (List ℕ)). (write_each (map write xs) n).1) first.0 ∙ others.0,
+      (first.1, subst (λ (n : List (List ℕ)). GoodItems (items_of (write_each (map write xs) n).0)) (sym first.0) others.1),
+    )
 
 -- a law of the level is one of the schema
 good_level : (x : open_schema.Schema-F Schema Field) (w : Writing Data) (begins : Begins) → written (roll-Schema x) ≡ w → once (roll-Schema x) ≡ begins → GoodWriting w begins → GoodSchema (roll-Schema x)
@@ -220,10 +221,11 @@ record_good name es b after begun =
     let new = one_name_is (has_begun name b) name b p.0 refl p.1 in
     let inner = each_good written_field once_field GoodField (λ x q. q) es p.0 after p.2 in
     let w : Writing Data = record_written name (map written_field fields) in
-    let out : named name w b ≡ w p.0 = named_out name w b new.0 ∙ ap w new.1 in
-    (ap (λ (x : Data × List (List ℕ)). x.1) out ∙ inner.0,
-    subst (λ (x : Data × List (List ℕ)). Good x.0) (sym out)
-    (built_record (array (items_of (write_each (map written_field fields) p.0).0)) name, put_good (codes "fields") (array (items_of (write_each (map written_field fields) p.0).0)) (named_keys (codes "record") name) refl inner.1 (keys_good (codes "record") name (is_text (codes "record") refl) o.0)))
+    let out : named name w b ≡ w p.0 = named_out name w b new.0 ∙ ap w new.1 in (
+      ap (λ (x : Data × List (List ℕ)). x.1) out ∙ inner.0,
+      subst (λ (x : Data × List (List ℕ)). Good x.0) (sym out)
+          (built_record (array (items_of (write_each (map written_field fields) p.0).0)) name, put_good (codes "fields") (array (items_of (write_each (map written_field fields) p.0).0)) (named_keys (codes "record") name) refl inner.1 (keys_good (codes "record") name (is_text (codes "record") refl) o.0)),
+    )
 
 good_levels : (y : open_schema.Schema-F (Proved GoodSchema) (ProvedField GoodField)) → GoodSchema (roll-Schema (map-Schema (Proved GoodSchema) (ProvedField GoodField) Schema Field (λ e. e.0) (λ e. e.0) y))
 good_levels open_schema.Null = good_level open_schema.Null _ _ (written_roll open_schema.Null) (once_roll open_schema.Null) (λ b after begun. (same_some b after begun, is_text (codes "null") refl))
@@ -263,10 +265,11 @@ good_fields y b after begun =
     let o = when_true (is_utf8 y.name && is_id y.id) (once y.schema.0) b after (sym (ap (λ (g : Begins). g b) (once_field_roll x)) ∙ begun) in
     let u = both_true (is_utf8 y.name) (is_id y.id) o.0 in
     let r = y.schema.1 b after o.1 in
-    let is = written_field_roll x in
-    (ap (λ (v : Writing Data). (v b).1) is ∙ r.0,
-    subst (λ (v : Writing Data). Good (v b).0) (sym is)
-    (built_field y.name y.id (written y.schema.0 b).0, id_good (codes "field-id") y.id _ refl u.1 (put_good (codes "type") (written y.schema.0 b).0 (put (codes "name") (name_data y.name) no_members) refl r.1 (refl, text_of y.name u.0, tt))))
+    let is = written_field_roll x in (
+      ap (λ (v : Writing Data). (v b).1) is ∙ r.0,
+      subst (λ (v : Writing Data). Good (v b).0) (sym is)
+          (built_field y.name y.id (written y.schema.0 b).0, id_good (codes "field-id") y.id _ refl u.1 (put_good (codes "type") (written y.schema.0 b).0 (put (codes "name") (name_data y.name) no_members) refl r.1 (refl, text_of y.name u.0, tt))),
+    )
 
 pub written_good : (s : Schema) → GoodSchema s
 written_good s = by_levels GoodSchema GoodField good_levels good_fields s

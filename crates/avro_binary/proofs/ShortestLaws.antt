@@ -1,7 +1,7 @@
 -- The groups of a number are a spelling of it, and none is shorter.
-use Rattle.std.proofs.Common.{◌≡◌, ℕ, zero, suc, ◌+◌, ◌*◌, ◌/◌, ◌%◌, ◌^◌, ◌<◌, ◌≤◌, List, [], ◌∷◌, ◌++◌, length, refl, sym, ap, subst, ◌∙◌, inl, inr, arith}
+use Rattle.std.proofs.Common.{◌≡◌, ℕ, zero, suc, ◌+◌, ◌*◌, ◌/◌, ◌%◌, ◌^◌, ◌<◌, ◌≤◌, List, [], ◌∷◌, length, refl, sym, ap, subst, inl, inr, arith}
 use Rattle.std.proofs.lemmas.Bool.{cases_lt, lt-ltb, le-ltb}
-use Rattle.avro_binary.specs.Spelling.{groups_up_to, groups_of}
+use Rattle.avro_binary.specs.Spelling.{groups_up_to}
 use Rattle.avro_binary.specs.Grammar.{IsNumber}
 
 -- the numbers that so many groups after the first are enough for

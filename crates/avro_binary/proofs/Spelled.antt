@@ -1,8 +1,8 @@
 -- The spelling of each kind of datum.
-use Rattle.std.proofs.Common.{◌≡◌, ℕ, Bool, true, false, ℤ, List, [], ◌∷◌, ◌++◌, map, length, refl, sym, ap, ◌∙◌}
+use Rattle.std.proofs.Common.{◌≡◌, ℕ, Bool, ℤ, List, [], ◌∷◌, ◌++◌, map, sym, ap, ◌∙◌}
 use Rattle.std.specs.Prelude.{if◌then◌else◌}
 use Rattle.std.specs.List.{concat}
-use Rattle.avro_binary.specs.declared.datum.Datum.{Datum, roll-Datum}
+use Rattle.avro_binary.specs.declared.datum.Datum.{Datum}
 use Rattle.avro_binary.specs.declared.datum.Datum.TheFolds.{fold-roll-Datum, fold_out-MapPair}
 use Rattle.avro_binary.specs.declared.datum.Datum.TheOpen as open_datum
 use Rattle.avro_binary.specs.declared.datum.Datum.TheVariants as datum

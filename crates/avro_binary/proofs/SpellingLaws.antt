@@ -1,5 +1,5 @@
 -- What is written is read again.
-use Rattle.std.proofs.Common.{◌≡◌, ◌⊎◌, ℕ, zero, suc, min, ◌+◌, ◌*◌, ◌/◌, ◌%◌, ◌^◌, ◌<◌, ◌≤◌, ℤ, pos, negsuc, Bool, true, false, cond, ◌&&◌, ◌||◌, eqb, ltb, leb, List, [], ◌∷◌, ◌++◌, map, length, Ok, Err, refl, sym, ap, subst, ◌∙◌, append_assoc, inl, inr, arith}
+use Rattle.std.proofs.Common.{◌≡◌, ◌⊎◌, ℕ, zero, suc, min, ◌+◌, ◌*◌, ◌/◌, ◌%◌, ◌^◌, ◌<◌, ◌≤◌, ℤ, pos, negsuc, Bool, true, false, ◌&&◌, ◌||◌, List, [], ◌∷◌, ◌++◌, map, length, Ok, refl, sym, ap, subst, ◌∙◌, append_assoc, inl, inr, arith}
 use Rattle.std.specs.List.{concat, AllByRecursion}
 use Rattle.std.specs.Str.{IsUtf8}
 use Rattle.std.proofs.lemmas.Bool.{ltb-true}
@@ -88,10 +88,11 @@ each_again fits reads spell again (x ∷ xs) rest all short =
     let others : List ℕ = concat (map spell xs) in
     let len : length (spell x ++ others) ≡ length (spell x) + length others = length-append (spell x) others in
     let first : length (spell x) < 2 ^ 63 = omega arith in
-    let less : length others < 2 ^ 63 = omega arith in
-    (others ++ rest,
-    subst (λ (t : List ℕ). reads t x (others ++ rest)) (sym (append_assoc (spell x) others rest)) (again x (others ++ rest) all.0 first),
-    each_again fits reads spell again xs rest all.1 less)
+    let less : length others < 2 ^ 63 = omega arith in (
+      others ++ rest,
+      subst (λ (t : List ℕ). reads t x (others ++ rest)) (sym (append_assoc (spell x) others rest)) (again x (others ++ rest) all.0 first),
+      each_again fits reads spell again xs rest all.1 less,
+    )
 
 pub items_count : {A : Type 0} (fits : A → Type 0) (spell : A → List ℕ) → ((x : A) → fits x → 0 < length (spell x)) → (xs : List A) → AllByRecursion fits xs → length xs ≤ length (concat (map spell xs))
 items_count fits spell takes [] all = omega arith
@@ -120,7 +121,7 @@ block_again {A = A} fits reads spell again takes (x ∷ xs) rest all short =
     let count : length (x ∷ xs) ≤ length items = items_count fits spell takes (x ∷ xs) all in
     let left : length (items ++ 0 ∷ rest) ≡ length items + length (0 ∷ rest) = length-append items (0 ∷ rest) in
     let counts : ReadsCount (number ++ (items ++ 0 ∷ rest)) (length (x ∷ xs)) (items ++ 0 ∷ rest) =
-        subst (λ (n : ℕ). ReadsCount (natural n ++ (items ++ 0 ∷ rest)) (length (x ∷ xs)) (items ++ 0 ∷ rest)) (sym same) (count_again (length (x ∷ xs)) (items ++ 0 ∷ rest) (omega arith) (omega arith)) in
+    subst (λ (n : ℕ). ReadsCount (natural n ++ (items ++ 0 ∷ rest)) (length (x ∷ xs)) (items ++ 0 ∷ rest)) (sym same) (count_again (length (x ∷ xs)) (items ++ 0 ∷ rest) (omega arith) (omega arith)) in
     subst (λ (t : List ℕ). ReadsAll reads t (x ∷ xs) rest) (sym (block_parts number items rest))
     ((x ∷ xs) ∷ [], (0 ∷ rest, (items ++ 0 ∷ rest, omega arith, counts, each_again fits reads spell again (x ∷ xs) (0 ∷ rest) all few), no_more rest), sym (append-nil (x ∷ xs)))
 

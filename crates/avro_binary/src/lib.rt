@@ -25,10 +25,11 @@ mod schema_writer;
 mod tests;
 mod word;
 mod write;
-
 mod writing;
 mod writing_laws;
 mod writing_leaf;
+#[cfg(test)]
+mod writing_tests;
 
 pub use datum::{Datum, MapPair};
 pub use fault::{DatumFault, FaultKind, Spot, Stop};
@@ -41,7 +42,9 @@ pub use schema_fault::SchemaFault;
 pub use schema_reader::read_schema;
 pub use schema_writer::write_schema;
 pub use write::write_datum;
-
 pub use writing::put_each;
-pub use writing_laws::{numbers_are_spelled_shortest, the_text_of_a_schema_is_read, what_is_read_fits, what_is_written_is_read};
+pub use writing_laws::{
+    numbers_are_spelled_shortest, the_text_of_a_schema_is_read, what_is_read_fits,
+    what_is_written_is_read,
+};
 pub use writing_leaf::{put_bytes, put_counted, put_natural};

@@ -18,13 +18,23 @@ fn name_json(alloc: Global, name: &[u8]) -> Result<Value, AllocError>
     Ok(Value::String(String::from_utf8_lossy(alloc, name)?))
 }
 
-fn put_text(members: &mut Map<String, Value>, alloc: Global, key: &str, text: &str) -> Result<(), AllocError>
+fn put_text(
+    members: &mut Map<String, Value>,
+    alloc: Global,
+    key: &str,
+    text: &str,
+) -> Result<(), AllocError>
     ensures { OnOk result (members_view members.new.entries ≡ with_member key.now (string text.now) (members_view members.old.entries)) }
 {
     put(members, alloc, key, Value::try_from_str(alloc, text)?)
 }
 
-fn put_name(members: &mut Map<String, Value>, alloc: Global, key: &str, name: &[u8]) -> Result<(), AllocError>
+fn put_name(
+    members: &mut Map<String, Value>,
+    alloc: Global,
+    key: &str,
+    name: &[u8],
+) -> Result<(), AllocError>
     ensures { OnOk result (members_view members.new.entries ≡ with_member key.now (name_data name.now) (members_view members.old.entries)) }
 {
     let name = name_json(alloc, name)?;
@@ -40,7 +50,12 @@ fn type_key(alloc: Global, word: &str) -> Result<Map<String, Value>, AllocError>
     Ok(members)
 }
 
-fn put_id(members: &mut Map<String, Value>, alloc: Global, key: &str, id: Option<i32>) -> Result<(), AllocError>
+fn put_id(
+    members: &mut Map<String, Value>,
+    alloc: Global,
+    key: &str,
+    id: Option<i32>,
+) -> Result<(), AllocError>
     ensures { OnOk result (members_view members.new.entries ≡ with_id key.now id (members_view members.old.entries)) }
 {
     match id {
@@ -49,7 +64,12 @@ fn put_id(members: &mut Map<String, Value>, alloc: Global, key: &str, id: Option
     }
 }
 
-fn put_decimal(members: &mut Map<String, Value>, alloc: Global, precision: u8, scale: u8) -> Result<(), AllocError>
+fn put_decimal(
+    members: &mut Map<String, Value>,
+    alloc: Global,
+    precision: u8,
+    scale: u8,
+) -> Result<(), AllocError>
     ensures { OnOk result (members_view members.new.entries ≡ with_logical (Logical.Decimal precision scale) (members_view members.old.entries)) }
 {
     put_text(members, alloc, "logicalType", "decimal")?;
@@ -57,14 +77,22 @@ fn put_decimal(members: &mut Map<String, Value>, alloc: Global, precision: u8, s
     put(members, alloc, "scale", Value::from(scale))
 }
 
-fn put_timestamp(members: &mut Map<String, Value>, alloc: Global, utc: bool) -> Result<(), AllocError>
+fn put_timestamp(
+    members: &mut Map<String, Value>,
+    alloc: Global,
+    utc: bool,
+) -> Result<(), AllocError>
     ensures { OnOk result (members_view members.new.entries ≡ with_logical (Logical.TimestampMicros utc) (members_view members.old.entries)) }
 {
     put_text(members, alloc, "logicalType", "timestamp-micros")?;
     put(members, alloc, "adjust-to-utc", Value::from(utc))
 }
 
-fn put_logical(members: &mut Map<String, Value>, alloc: Global, logical: &Logical) -> Result<(), AllocError>
+fn put_logical(
+    members: &mut Map<String, Value>,
+    alloc: Global,
+    logical: &Logical,
+) -> Result<(), AllocError>
     ensures { OnOk result (members_view members.new.entries ≡ with_logical logical.now (members_view members.old.entries)) }
 {
     match logical {
@@ -122,7 +150,12 @@ fn and_name(alloc: Global, begun: Vec<Octets>, name: &[u8]) -> Result<Vec<Octets
 }
 
 #[tactic(auto, unfolding(crate::specs::SchemaData::named))]
-fn enum_json(alloc: Global, name: &[u8], names: &[Octets], begun: Vec<Octets>) -> Result<(Value, Vec<Octets>), AllocError>
+fn enum_json(
+    alloc: Global,
+    name: &[u8],
+    names: &[Octets],
+    begun: Vec<Octets>,
+) -> Result<(Value, Vec<Octets>), AllocError>
     ensures { IfOk result (λ x. (view x.0, x.1.items) ≡ named name.now (enum_written name.now names.now) begun.items) }
 {
     if has_begun(name, begun.as_slice()) {
@@ -136,7 +169,13 @@ fn enum_json(alloc: Global, name: &[u8], names: &[Octets], begun: Vec<Octets>) -
 }
 
 #[tactic(auto, unfolding(crate::specs::SchemaData::named))]
-fn fixed_json(alloc: Global, name: &[u8], size: u64, logical: &Logical, begun: Vec<Octets>) -> Result<(Value, Vec<Octets>), AllocError>
+fn fixed_json(
+    alloc: Global,
+    name: &[u8],
+    size: u64,
+    logical: &Logical,
+    begun: Vec<Octets>,
+) -> Result<(Value, Vec<Octets>), AllocError>
     ensures { IfOk result (λ x. (view x.0, x.1.items) ≡ named name.now (fixed_written name.now size logical.now) begun.items) }
 {
     if has_begun(name, begun.as_slice()) {
@@ -150,7 +189,11 @@ fn fixed_json(alloc: Global, name: &[u8], size: u64, logical: &Logical, begun: V
 }
 
 #[cycle(schema_data)]
-pub fn schema_json(alloc: Global, schema: &Schema, begun: Vec<Octets>) -> Result<(Value, Vec<Octets>), AllocError>
+pub fn schema_json(
+    alloc: Global,
+    schema: &Schema,
+    begun: Vec<Octets>,
+) -> Result<(Value, Vec<Octets>), AllocError>
     ensures { IfOk result (λ x. (view x.0, x.1.items) ≡ written schema.now begun.items) }
 {
     match schema {
@@ -160,18 +203,45 @@ pub fn schema_json(alloc: Global, schema: &Schema, begun: Vec<Octets>) -> Result
         Schema::Long(logical) => Ok((primitive(alloc, "long", logical)?, begun)),
         Schema::Bytes(logical) => Ok((primitive(alloc, "bytes", logical)?, begun)),
         Schema::Text => Ok((Value::try_from_str(alloc, "string")?, begun)),
-        Schema::Record { name, fields } => record_json(alloc, name.as_slice(), fields.as_slice(), begun),
-        Schema::Enum { name, symbols } => enum_json(alloc, name.as_slice(), symbols.as_slice(), begun),
-        Schema::Array { items, element, map } => array_json(alloc, items.get(), *element, *map, begun),
-        Schema::Map { values, key_id, value_id } => map_json(alloc, values.get(), *key_id, *value_id, begun),
+        Schema::Record { name, fields } => record_json(
+            alloc,
+            name.as_slice(),
+            fields.as_slice(),
+            begun,
+        ),
+        Schema::Enum { name, symbols } => enum_json(
+            alloc,
+            name.as_slice(),
+            symbols.as_slice(),
+            begun,
+        ),
+        Schema::Array {
+            items,
+            element,
+            map,
+        } => array_json(alloc, items.get(), *element, *map, begun),
+        Schema::Map {
+            values,
+            key_id,
+            value_id,
+        } => map_json(alloc, values.get(), *key_id, *value_id, begun),
         Schema::Union(branches) => union_json(alloc, branches.as_slice(), begun),
-        Schema::Fixed { name, size, logical } => fixed_json(alloc, name.as_slice(), *size, logical, begun),
+        Schema::Fixed {
+            name,
+            size,
+            logical,
+        } => fixed_json(alloc, name.as_slice(), *size, logical, begun),
     }
 }
 
 #[cycle(schema_data)]
 #[tactic(auto, unfolding(crate::specs::SchemaData::named))]
-fn record_json(alloc: Global, name: &[u8], fields: &[Field], begun: Vec<Octets>) -> Result<(Value, Vec<Octets>), AllocError>
+fn record_json(
+    alloc: Global,
+    name: &[u8],
+    fields: &[Field],
+    begun: Vec<Octets>,
+) -> Result<(Value, Vec<Octets>), AllocError>
     ensures { IfOk result (λ x. (view x.0, x.1.items) ≡ named name.now (record_written name.now (map written_field fields.now)) begun.items) }
 {
     if has_begun(name, begun.as_slice()) {
@@ -185,7 +255,11 @@ fn record_json(alloc: Global, name: &[u8], fields: &[Field], begun: Vec<Octets>)
 }
 
 #[cycle(schema_data)]
-fn fields_json(alloc: Global, fields: &[Field], begun: Vec<Octets>) -> Result<(Vec<Value>, Vec<Octets>), AllocError>
+fn fields_json(
+    alloc: Global,
+    fields: &[Field],
+    begun: Vec<Octets>,
+) -> Result<(Vec<Value>, Vec<Octets>), AllocError>
     ensures { IfOk result (λ x. (map view x.0.items, x.1.items) ≡ write_each (map written_field fields.now) begun.items) }
 {
     let mut items = Vec::new(alloc);
@@ -199,7 +273,11 @@ fn fields_json(alloc: Global, fields: &[Field], begun: Vec<Octets>) -> Result<(V
 }
 
 #[cycle(schema_data)]
-fn field_json(alloc: Global, field: &Field, begun: Vec<Octets>) -> Result<(Value, Vec<Octets>), AllocError>
+fn field_json(
+    alloc: Global,
+    field: &Field,
+    begun: Vec<Octets>,
+) -> Result<(Value, Vec<Octets>), AllocError>
     ensures { IfOk result (λ x. (view x.0, x.1.items) ≡ written_field field.now begun.items) }
 {
     let mut members = Map::new(alloc);
@@ -211,7 +289,13 @@ fn field_json(alloc: Global, field: &Field, begun: Vec<Octets>) -> Result<(Value
 }
 
 #[cycle(schema_data)]
-fn array_json(alloc: Global, items: &Schema, element: Option<i32>, map: bool, begun: Vec<Octets>) -> Result<(Value, Vec<Octets>), AllocError>
+fn array_json(
+    alloc: Global,
+    items: &Schema,
+    element: Option<i32>,
+    map: bool,
+    begun: Vec<Octets>,
+) -> Result<(Value, Vec<Octets>), AllocError>
     ensures { IfOk result (λ x. (view x.0, x.1.items) ≡ array_written (written items.now) element map begun.items) }
 {
     let mut members = type_key(alloc, "array")?;
@@ -223,7 +307,13 @@ fn array_json(alloc: Global, items: &Schema, element: Option<i32>, map: bool, be
 }
 
 #[cycle(schema_data)]
-fn map_json(alloc: Global, values: &Schema, key: Option<i32>, value: Option<i32>, begun: Vec<Octets>) -> Result<(Value, Vec<Octets>), AllocError>
+fn map_json(
+    alloc: Global,
+    values: &Schema,
+    key: Option<i32>,
+    value: Option<i32>,
+    begun: Vec<Octets>,
+) -> Result<(Value, Vec<Octets>), AllocError>
     ensures { IfOk result (λ x. (view x.0, x.1.items) ≡ map_written (written values.now) key value begun.items) }
 {
     let mut members = type_key(alloc, "map")?;
@@ -235,7 +325,11 @@ fn map_json(alloc: Global, values: &Schema, key: Option<i32>, value: Option<i32>
 }
 
 #[cycle(schema_data)]
-fn union_json(alloc: Global, branches: &[Schema], begun: Vec<Octets>) -> Result<(Value, Vec<Octets>), AllocError>
+fn union_json(
+    alloc: Global,
+    branches: &[Schema],
+    begun: Vec<Octets>,
+) -> Result<(Value, Vec<Octets>), AllocError>
     ensures { IfOk result (λ x. (view x.0, x.1.items) ≡ union_written (map written branches.now) begun.items) }
 {
     let (items, begun) = branches_json(alloc, branches, begun)?;
@@ -243,7 +337,11 @@ fn union_json(alloc: Global, branches: &[Schema], begun: Vec<Octets>) -> Result<
 }
 
 #[cycle(schema_data)]
-fn branches_json(alloc: Global, branches: &[Schema], begun: Vec<Octets>) -> Result<(Vec<Value>, Vec<Octets>), AllocError>
+fn branches_json(
+    alloc: Global,
+    branches: &[Schema],
+    begun: Vec<Octets>,
+) -> Result<(Vec<Value>, Vec<Octets>), AllocError>
     ensures { IfOk result (λ x. (map view x.0.items, x.1.items) ≡ write_each (map written branches.now) begun.items) }
 {
     let mut items = Vec::new(alloc);

@@ -8,3 +8,4 @@ pub mod FileLaws
 pub mod Answered
 pub mod Pieces
 pub mod TextLaws
+pub mod LongLaws

@@ -13,6 +13,8 @@ mod pairs;
 mod tests;
 mod writer;
 mod writing;
+#[cfg(test)]
+mod writing_tests;
 
 pub use block::next_block;
 pub use container::{Container, one_container, read_container};

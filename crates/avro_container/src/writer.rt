@@ -4,6 +4,7 @@ ghost use Rattle.avro_binary.specs.Shape.{shape};
 ghost use Rattle.avro_binary.specs.Spelling.{Fits, takes_bytes, items_take_bytes};
 ghost use Rattle.avro_binary.specs.SchemaText.{schema_from};
 ghost use Rattle.avro_binary.specs.SchemaData.{schema_text};
+ghost use Rattle.avro_binary.specs.SchemaOnce.{has_text};
 ghost use Rattle.avro_container.specs.declared.container.Container.{Container as File};
 ghost use Rattle.avro_container.specs.Container.{container_of};
 ghost use Rattle.avro_container.specs.ContainerText.{container_text, AreMeta};
@@ -30,8 +31,10 @@ pub fn write_container(alloc: Global, container: &Container) -> Result<Blob, All
 }
 
 /// A container that is written is read again, where its schema is, and each datum and each item of an array takes
-/// bytes: a block counts no more datums than bytes.
+/// bytes: a block counts no more datums than bytes. A schema is read again where no named type stands twice in it.
 pub fn what_is_written_is_read()
-    ensures { (c : File) → AllByRecursion (Fits (shape c.schema)) c.datums → AreMeta c.meta → schema_from (schema_text c.schema) ≡ Ok c.schema
+    ensures once { (c : File) → AllByRecursion (Fits (shape c.schema)) c.datums → AreMeta c.meta → IsTrue (has_text c.schema)
+        → IsTrue (takes_bytes (shape c.schema)) → IsTrue (items_take_bytes (shape c.schema)) → length (container_text c) < 2 ^ 63 → container_of (container_text c) ≡ Ok c }
+    ensures any { (c : File) → AllByRecursion (Fits (shape c.schema)) c.datums → AreMeta c.meta → schema_from (schema_text c.schema) ≡ Ok c.schema
         → IsTrue (takes_bytes (shape c.schema)) → IsTrue (items_take_bytes (shape c.schema)) → length (container_text c) < 2 ^ 63 → container_of (container_text c) ≡ Ok c }
 {}

@@ -1,4 +1,3 @@
-use Rattle.std.proofs.Common.{◌≡◌, OnOk, codes, sym, ◌∙◌}
 use Rattle.avro_binary.proofs.schema_data.put_logical.Goals as goal
 
 pub returns-in-Other : goal.returns-in-Other

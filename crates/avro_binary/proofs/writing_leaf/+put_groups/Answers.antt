@@ -1,4 +1,4 @@
-use Rattle.std.proofs.Common.{◌-◌, ◌/◌, ◌%◌, ◌+◌, [], ◌∷◌, ◌<◌, ◌≤◌, arith}
+use Rattle.std.proofs.Common.{◌-◌, ◌/◌, ◌%◌, ◌+◌, [], ◌∷◌, arith}
 use Rattle.avro_binary.specs.Spelling.{groups_up_to}
 use Rattle.avro_binary.proofs.Appending.{groups_step, written_after}
 use Rattle.avro_binary.proofs.writing_leaf.+put_groups.Goals as goal
