@@ -3,7 +3,6 @@ use Rattle.std.proofs.Common.{◌≡◌, ℤ, List, [], ◌∷◌, ◌++◌, ref
 use Rattle.std.specs.List.{AllByRecursion}
 use Rattle.avro_binary.specs.declared.datum.Datum as datums
 use Rattle.avro_binary.specs.declared.datum.Datum.TheVariants as datum
-use Rattle.avro_binary.specs.declared.schema.Schema as schemas
 use Rattle.avro_binary.specs.declared.schema.Schema.TheOpen as open_schema
 use Rattle.avro_binary.specs.declared.schema.Schema.TheVariants as schema
 use Rattle.avro_binary.specs.declared.schema.Schema.TheFolds.{fold-roll-Schema}

@@ -1,5 +1,5 @@
 -- A container that is written is read again.
-use Rattle.std.proofs.Common.{◌≡◌, ℕ, zero, suc, pos, ltb, ◌+◌, ◌*◌, ◌^◌, ◌<◌, ◌≤◌, Bool, true, List, [], ◌∷◌, ◌++◌, map, length, Ok, codes, refl, sym, ap, subst, ◌∙◌, append_assoc, inl, inr, arith}
+use Rattle.std.proofs.Common.{◌≡◌, ℕ, zero, suc, pos, ltb, ◌+◌, ◌*◌, ◌^◌, ◌<◌, ◌≤◌, true, List, [], ◌∷◌, ◌++◌, map, length, Ok, codes, refl, sym, subst, append_assoc, inl, inr, arith}
 use Rattle.std.specs.List.{concat, AllByRecursion, list_all}
 use Rattle.std.specs.Str.{IsUtf8, IsAscii}
 use Rattle.std.proofs.lemmas.Bool.{ltb-true}
@@ -9,7 +9,7 @@ use Rattle.avro_binary.specs.declared.datum.Datum as datums
 use Rattle.avro_binary.specs.declared.schema.Schema as schemas
 use Rattle.avro_binary.specs.Shape as shapes
 use Rattle.avro_binary.specs.Number.{signed}
-use Rattle.avro_binary.specs.Grammar.{ReadsLong, ReadsLength, ReadsEach, ReadsAll, Reads, joined}
+use Rattle.avro_binary.specs.Grammar.{ReadsLong, ReadsLength, ReadsEach, Reads}
 use Rattle.avro_binary.specs.Spelling.{natural, counted, block, spelling, Fits, takes_bytes, items_take_bytes}
 use Rattle.avro_binary.specs.SchemaText.{schema_from}
 use Rattle.avro_binary.specs.SchemaData.{schema_text}
@@ -18,7 +18,7 @@ use Rattle.avro_container.specs.declared.pairs.MetaPair.{MetaPair}
 use Rattle.avro_container.specs.declared.container.Container.{Container}
 use Rattle.avro_container.specs.Header.{magic}
 use Rattle.avro_container.specs.Container.{container_of}
-use Rattle.avro_container.specs.Grammar.{ReadsPair, Lacks, Has, Distinct, AreOthers, ReadsBlock, AreBlocks, ContainerOf}
+use Rattle.avro_container.specs.Grammar.{ReadsPair, Lacks, AreOthers, ReadsBlock, AreBlocks, ContainerOf}
 use Rattle.avro_container.specs.ContainerText.{sync, pair_text, schema_pair, codec_pair, header_text, block_text, pieces, blocks_text, container_text, AreMeta}
 use Rattle.avro_container.proofs.FileLaws.{container_only}
 use Rattle.avro_container.proofs.Pieces.{joined_pieces, all_pieces}
@@ -94,11 +94,12 @@ block_reads shape some room ds rest fits short =
 
 blocks_read : (shape : shapes.Shape) (limit : ℕ) (ds : List datums.Datum) → 0 < limit → takes_bytes shape ≡ true → items_take_bytes shape ≡ true → AllByRecursion (Fits shape) ds → length (blocks_text limit ds) < 2 ^ 63 → AreBlocks shape sync (blocks_text limit ds) ds
 blocks_read shape limit ds positive some room fits short =
-    let ps : List (List datums.Datum) = pieces limit (length ds) ds in
-    (ps,
-    subst (λ (t : List ℕ). ReadsEach (BlockOf shape) ps t []) (append-nil (blocks_text limit ds))
-    (each_again (λ (piece : List datums.Datum). AllByRecursion (Fits shape) piece) (BlockOf shape) block_text (block_reads shape some room) ps [] (all_pieces (Fits shape) limit (length ds) ds fits) short),
-    joined_pieces limit (length ds) ds positive (omega arith))
+    let ps : List (List datums.Datum) = pieces limit (length ds) ds in (
+      ps,
+      subst (λ (t : List ℕ). ReadsEach (BlockOf shape) ps t []) (append-nil (blocks_text limit ds))
+          (each_again (λ (piece : List datums.Datum). AllByRecursion (Fits shape) piece) (BlockOf shape) block_text (block_reads shape some room) ps [] (all_pieces (Fits shape) limit (length ds) ds fits) short),
+      joined_pieces limit (length ds) ds positive (omega arith),
+    )
 
 -- ---- the file
 

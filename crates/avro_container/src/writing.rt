@@ -84,7 +84,12 @@ fn cut(limit: usize, datums: &[Datum]) -> (&[Datum], &[Datum])
 }
 
 /// Blocks of at most `limit` datums.
-pub fn put_blocks(alloc: Global, limit: usize, datums: &[Datum], out: &mut Vec<u8>) -> Result<(), AllocError>
+pub fn put_blocks(
+    alloc: Global,
+    limit: usize,
+    datums: &[Datum],
+    out: &mut Vec<u8>,
+) -> Result<(), AllocError>
     requires { 0 < limit }
     ensures { OnOk result (out.new.items ≡ out.old.items ++ blocks_text limit datums.now) }
 {
@@ -97,7 +102,12 @@ pub fn put_blocks(alloc: Global, limit: usize, datums: &[Datum], out: &mut Vec<u
     Ok(())
 }
 
-pub fn container_bytes(alloc: Global, schema: &Schema, meta: &[MetaPair], datums: &[Datum]) -> Result<Vec<u8>, AllocError>
+pub fn container_bytes(
+    alloc: Global,
+    schema: &Schema,
+    meta: &[MetaPair],
+    datums: &[Datum],
+) -> Result<Vec<u8>, AllocError>
     ensures { IfOk result (λ text. text.items ≡ header_text schema.now meta.now ++ blocks_text 1000 datums.now) }
 {
     let mut out = Vec::new(alloc);

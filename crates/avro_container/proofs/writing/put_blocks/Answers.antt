@@ -1,4 +1,4 @@
-use Rattle.std.proofs.Common.{◌≡◌, ◌++◌, ◌<◌, length, sym}
+use Rattle.std.proofs.Common.{◌++◌, length, sym}
 use Rattle.std.proofs.lemmas.Bool.{eqb-true}
 use Rattle.avro_container.specs.ContainerText.{blocks_text}
 use Rattle.avro_container.proofs.Pieces.{blocks_go_on, blocks_are_done, some_left}
