@@ -7,3 +7,13 @@ pub mod DatumLaws
 pub mod Answered
 pub mod Placing
 pub mod Each
+pub mod Appending
+pub mod ShortestLaws
+pub mod Spelled
+pub mod SpellingLaws
+pub mod SchemaLoops
+pub mod SchemaFloats
+pub mod SchemaLaws
+pub mod JsonTexts
+pub mod SchemaTexts
+pub mod FittingLaws

@@ -3,8 +3,11 @@ pub mod Number
 pub mod Shape
 pub mod Reading
 pub mod Grammar
+pub mod Spelling
 pub mod Fault
 pub mod Word
 pub mod Naming
 pub mod Placed
 pub mod SchemaText
+pub mod SchemaData
+pub mod SchemaOnce

@@ -17,12 +17,20 @@ mod placed;
 mod read;
 mod reading;
 mod schema;
+mod schema_data;
 mod schema_fault;
 mod schema_reader;
 mod schema_text;
+mod schema_writer;
 #[cfg(test)]
 mod tests;
 mod word;
+mod write;
+mod writing;
+mod writing_laws;
+mod writing_leaf;
+#[cfg(test)]
+mod writing_tests;
 
 pub use datum::{Datum, MapPair};
 pub use fault::{DatumFault, FaultKind, Spot, Stop};
@@ -33,3 +41,11 @@ pub use reading::{datum_at, datums_at};
 pub use schema::{Field, Logical, Schema};
 pub use schema_fault::SchemaFault;
 pub use schema_reader::read_schema;
+pub use schema_writer::write_schema;
+pub use write::write_datum;
+pub use writing::put_each;
+pub use writing_laws::{
+    numbers_are_spelled_shortest, the_text_of_a_schema_is_read, what_is_read_fits,
+    what_is_written_is_read,
+};
+pub use writing_leaf::{put_bytes, put_counted, put_natural};

@@ -6,3 +6,6 @@ pub mod MetaLaws
 pub mod BlockLaws
 pub mod FileLaws
 pub mod Answered
+pub mod Pieces
+pub mod TextLaws
+pub mod LongLaws

@@ -4,3 +4,4 @@ pub mod Header
 pub mod Block
 pub mod Container
 pub mod Grammar
+pub mod ContainerText

@@ -11,6 +11,10 @@ mod header;
 mod pairs;
 #[cfg(test)]
 mod tests;
+mod writer;
+mod writing;
+#[cfg(test)]
+mod writing_tests;
 
 pub use block::next_block;
 pub use container::{Container, one_container, read_container};
@@ -18,3 +22,4 @@ pub use fault::ContainerFault;
 pub use header::{Header, read_header};
 pub use pairs::MetaPair;
 pub use plain_types::{Bytes as Blob, List, Text as Name};
+pub use writer::{what_is_written_is_read, write_container};

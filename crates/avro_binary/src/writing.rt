@@ -1,0 +1,92 @@
+//! Datums of every type, written at the end of bytes.
+
+ghost use Rattle.std.specs.Prelude.{◌≡◌, ◌++◌, ◌*◌, ◌^◌, ◌<◌, ◌∷◌, [], OnOk, length, map};
+ghost use Rattle.std.specs.List.{concat};
+ghost use Rattle.avro_binary.specs.Spelling.{natural, block, spelling, pair_spelling};
+
+use crate::datum::{Datum, MapPair};
+use crate::writing_leaf::{put_boolean, put_bytes, put_counted, put_natural, put_signed};
+use std::alloc::AllocError;
+
+#[cycle(writing)]
+pub fn put_datum(datum: &Datum, out: &mut Vec<u8>) -> Result<(), AllocError>
+    ensures { OnOk result (out.new.items ≡ out.old.items ++ spelling datum.now) }
+{
+    match datum {
+        Datum::Null => Ok(()),
+        Datum::Boolean(value) => put_boolean(*value, out),
+        Datum::Int(value) => put_signed(i64::from(*value), out),
+        Datum::Long(value) => put_signed(*value, out),
+        Datum::Bytes(bytes) => put_counted(bytes.as_slice(), out),
+        Datum::Text(bytes) => put_counted(bytes.as_slice(), out),
+        Datum::Record(values) => put_each(values.as_slice(), out),
+        Datum::Enum(index) => put_natural(u64::from(*index), out),
+        Datum::Array(items) => put_items(items.as_slice(), out),
+        Datum::Map(pairs) => put_pairs(pairs.as_slice(), out),
+        Datum::Union { branch, value } => put_branch(*branch, value.get(), out),
+        Datum::Fixed(bytes) => put_bytes(bytes.as_slice(), out),
+    }
+}
+
+/// One datum after the other.
+#[cycle(writing)]
+pub fn put_each(values: &[Datum], out: &mut Vec<u8>) -> Result<(), AllocError>
+    ensures { OnOk result (out.new.items ≡ out.old.items ++ concat (map spelling values.now)) }
+{
+    for value in values {
+        put_datum(value, out)?;
+    }
+    Ok(())
+}
+
+#[cycle(writing)]
+fn put_branch(branch: u32, value: &Datum, out: &mut Vec<u8>) -> Result<(), AllocError>
+    ensures { OnOk result (out.new.items ≡ out.old.items ++ natural branch ++ spelling value.now) }
+{
+    put_natural(u64::from(branch), out)?;
+    put_datum(value, out)?;
+    Ok(())
+}
+
+#[cycle(writing)]
+fn put_items(items: &[Datum], out: &mut Vec<u8>) -> Result<(), AllocError>
+    ensures { OnOk result (out.new.items ≡ out.old.items ++ block (map spelling items.now)) }
+{
+    if !items.is_empty() {
+        put_natural(items.len() as u64, out)?;
+        put_each(items, out)?;
+    }
+    out.push(0)?;
+    Ok(())
+}
+
+#[cycle(writing)]
+fn put_pairs(pairs: &[MapPair], out: &mut Vec<u8>) -> Result<(), AllocError>
+    ensures { OnOk result (out.new.items ≡ out.old.items ++ block (map pair_spelling pairs.now)) }
+{
+    if !pairs.is_empty() {
+        put_natural(pairs.len() as u64, out)?;
+        put_each_pair(pairs, out)?;
+    }
+    out.push(0)?;
+    Ok(())
+}
+
+#[cycle(writing)]
+fn put_each_pair(pairs: &[MapPair], out: &mut Vec<u8>) -> Result<(), AllocError>
+    ensures { OnOk result (out.new.items ≡ out.old.items ++ concat (map pair_spelling pairs.now)) }
+{
+    for pair in pairs {
+        put_pair(pair, out)?;
+    }
+    Ok(())
+}
+
+#[cycle(writing)]
+fn put_pair(pair: &MapPair, out: &mut Vec<u8>) -> Result<(), AllocError>
+    ensures { OnOk result (out.new.items ≡ out.old.items ++ pair_spelling pair.now) }
+{
+    put_counted(pair.key.as_slice(), out)?;
+    put_datum(&pair.value, out)?;
+    Ok(())
+}
