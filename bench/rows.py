@@ -1,0 +1,88 @@
+"""Measures `rows` on tables of a long and a text of 12 bytes, beside a plain Rust program that does the same job.
+
+    python3 bench/rows.py            times and peak memory at 1,000,000 rows
+    python3 bench/rows.py count      instructions at 250,000 and 1,000,000 rows (valgrind, minutes)
+    python3 bench/rows.py where      where the instructions go, at 10,000 rows
+
+The program has to be built before, by `rt run` in `crates/dml_program`. What is made lies in `bench/out`.
+"""
+
+import os
+import random
+import resource
+import subprocess
+import sys
+import time
+
+HERE = os.path.dirname(os.path.abspath(__file__))
+OUT = os.path.join(HERE, "out")
+sys.path.insert(0, os.path.join(HERE, "..", "samples"))
+
+import tables  # noqa: E402
+
+PROGRAM = os.path.join(HERE, "..", "crates", "dml_program", "out", "dml_program")
+PLAIN = os.path.join(OUT, "plain")
+
+
+def table(count):
+    name = "rows%d" % count
+    if not os.path.exists(os.path.join(OUT, name, "metadata", "v1.metadata.json")):
+        draw = random.Random(1)
+        rows = [(draw.getrandbits(40), "%012d" % draw.randrange(10 ** 12)) for _ in range(count)]
+        made = tables.Table(OUT, name, tables.COLUMNS)
+        made.version(1, [(1, None, 1, [made.manifest("m1.avro", [made.entry(1, made.data_file("a.avro", rows))], 1, 1)])], 1)
+    return name
+
+
+def size(name):
+    return os.path.getsize(os.path.join(OUT, name, "data", "a.avro"))
+
+
+def run(words, best_of=3):
+    """The least time in seconds, the peak memory in bytes and the output of a program."""
+    least, peak, text = None, 0, b""
+    for _ in range(best_of):
+        start = time.monotonic()
+        child = subprocess.Popen(words, cwd=OUT, stdout=subprocess.PIPE)
+        text = child.stdout.read()
+        _, status, usage = os.wait4(child.pid, 0)
+        took = time.monotonic() - start
+        if status != 0:
+            sys.exit("%s ended with %d" % (words, status))
+        least = took if least is None else min(least, took)
+        peak = max(peak, usage.ru_maxrss * 1024)
+    return least, peak, text
+
+
+def instructions(words):
+    found = subprocess.run(["valgrind", "--tool=callgrind", "--callgrind-out-file=callgrind.out"] + words, cwd=OUT,
+                           stdout=subprocess.DEVNULL, stderr=subprocess.PIPE, text=True)
+    line = [text for text in found.stderr.splitlines() if "Collected" in text][0]
+    return int(line.split(":")[1])
+
+
+def main():
+    os.makedirs(OUT, exist_ok=True)
+    subprocess.run(["rustc", "-O", "-o", PLAIN, os.path.join(HERE, "plain.rs")], check=True)
+    ours = lambda name: [PROGRAM, "rows", "--table", name]  # noqa: E731
+    mode = sys.argv[1] if len(sys.argv) > 1 else "times"
+    if mode == "times":
+        name = table(1000000)
+        took, peak, text = run(ours(name))
+        plain, plain_peak, plain_text = run([PLAIN, name])
+        if text != plain_text:
+            sys.exit("the two programs print different rows")
+        print("%d cores, a data file of %.1f MB" % (os.cpu_count(), size(name) / 1e6))
+        print("this program   %.2f s  %6.1f MB, %.1f times the file" % (took, peak / 1e6, peak / size(name)))
+        print("plain program  %.2f s  %6.1f MB" % (plain, plain_peak / 1e6))
+        print("ratio of times %.2f" % (took / plain))
+    elif mode == "count":
+        few, many = [instructions(ours(table(n))) for n in (250000, 1000000)]
+        print("%d and %d instructions, ratio %.2f" % (few, many, many / few))
+    else:
+        instructions(ours(table(10000)))
+        subprocess.run(["callgrind_annotate", "callgrind.out"], cwd=OUT)
+
+
+if __name__ == "__main__":
+    main()
