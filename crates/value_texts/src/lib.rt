@@ -10,4 +10,4 @@ mod records;
 mod tests;
 
 pub use fields::push_field;
-pub use records::{record_text, sorted_records};
+pub use records::sorted_records;

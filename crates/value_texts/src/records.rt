@@ -1,25 +1,13 @@
-ghost use Rattle.std.specs.Prelude.{◌≡◌, IfOk, map};
-ghost use Rattle.plain_types.specs.ByteOrder.{in_byte_order};
-ghost use Rattle.csv.specs.Writing.{default_writer, row_text};
+ghost use Rattle.std.specs.Prelude.{◌≡◌, ◌++◌, IfOk, OnOk, map};
+ghost use Rattle.csv.specs.Writing.{row_text, writer_under};
 ghost use Rattle.value_texts.specs.Texts.{field_of};
-ghost use Rattle.value_texts.specs.Records.{record_of, records_of};
+ghost use Rattle.value_texts.specs.Records.{IsReady, record_of, records_of, settings, without_last};
 
 use crate::fields::push_field;
-use csv::WriterBuilder;
+use csv::{Writer, WriterBuilder};
 use plain_types::{Bytes, sort_in_byte_order};
 use row_values::{Row, Value};
 use std::alloc::{AllocError, Global};
-
-/// The record of a row.
-pub fn record_text(alloc: Global, row: &[Value]) -> Result<Bytes, AllocError>
-    ensures { IfOk result (λ text. text ≡ record_of row.now) }
-{
-    let fields = fields_of(alloc, row)?;
-    let slices = slices_of(alloc, fields.as_slice())?;
-    let mut text = line_of(alloc, slices.as_slice())?;
-    text.pop();
-    Ok(Bytes::from_vec(text))
-}
 
 fn fields_of(alloc: Global, row: &[Value]) -> Result<Vec<Vec<u8>>, AllocError>
     ensures { IfOk result (λ fields. map (λ f. f.items) fields.items ≡ map field_of row.now) }
@@ -43,18 +31,46 @@ fn slices_of(alloc: Global, fields: &[Vec<u8>]) -> Result<Vec<&[u8]>, AllocError
     Ok(slices)
 }
 
-// The text of a record, with its line feed.
-fn line_of(alloc: Global, fields: &[&[u8]]) -> Result<Vec<u8>, AllocError>
-    ensures { IfOk result (λ text. text.items ≡ row_text default_writer (map (λ f. f.now) fields.now)) }
+// Writes a line, and holds nothing back.
+fn write_line(writer: &mut Writer<Vec<u8>>, fields: &[&[u8]]) -> Result<(), AllocError>
+    requires { IsReady writer.old }
+    ensures ready { OnOk result (IsReady writer.new) }
+    ensures text { OnOk result ((writer_under writer.new).items ≡ (writer_under writer.old).items ++ row_text settings (map (λ f. f.now) fields.now)) }
 {
-    let mut writer = WriterBuilder::new().from_writer(Vec::new(alloc));
     match writer.write_fields(fields) {
         Ok(()) => {}
         Err(_) => return Err(AllocError),
     }
-    match writer.into_inner() {
-        Ok(text) => Ok(text),
+    match writer.flush() {
+        Ok(()) => Ok(()),
         Err(_) => Err(AllocError),
+    }
+}
+
+// The record of a row, by a writer that is used for row after row.
+fn record_of(
+    alloc: Global,
+    writer: &mut Writer<Vec<u8>>,
+    row: &[Value],
+) -> Result<Bytes, AllocError>
+    requires { IsReady writer.old }
+    ensures ready { OnOk result (IsReady writer.new) }
+    ensures text { IfOk result (λ text. text ≡ record_of row.now) }
+{
+    let before = writer.get_ref().len();
+    let fields = fields_of(alloc, row)?;
+    let slices = slices_of(alloc, fields.as_slice())?;
+    write_line(writer, slices.as_slice())?;
+    let (_, line) = writer.get_ref().as_slice().split_at(before);
+    Bytes::copy_of(alloc, without_last(line))
+}
+
+fn without_last(line: &[u8]) -> &[u8]
+    ensures { result.now ≡ without_last line.now }
+{
+    match line {
+        [front @ .., _] => front,
+        [] => line,
     }
 }
 
@@ -70,9 +86,18 @@ pub fn sorted_records(alloc: Global, rows: &[Row]) -> Result<Vec<Bytes>, AllocEr
 fn records_in_order(alloc: Global, rows: &[Row]) -> Result<Vec<Bytes>, AllocError>
     ensures { IfOk result (λ records. records.items ≡ map record_of rows.now) }
 {
+    let mut writer = new_writer(alloc);
     let mut records = Vec::with_capacity(alloc, rows.len())?;
     for row in rows {
-        records.push(record_text(alloc, row.as_slice())?)?;
+        records.push(record_of(alloc, &mut writer, row.as_slice())?)?;
     }
     Ok(records)
+}
+
+fn new_writer(alloc: Global) -> Writer<Vec<u8>>
+    ensures { IsReady result }
+{
+    WriterBuilder::new()
+        .flexible(true)
+        .from_writer(Vec::new(alloc))
 }
