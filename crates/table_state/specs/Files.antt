@@ -1,5 +1,5 @@
 -- What the files of a table hold, by the paths that the table's own files name them by, or why that can't be said.
-use Rattle.std.specs.Prelude.{ℕ, ℤ, codes, List, [], ◌∷◌, ◌++◌, Option, Some, None, Result, Ok, Err, if◌then◌else◌}
+use Rattle.std.specs.Prelude.{ℕ, ℤ, codes, List, [], ◌∷◌, Option, Some, None, Result, if◌then◌else◌}
 use Rattle.std.specs.FinMap as map
 use Rattle.std.specs.Ordering.{int_eq}
 use Rattle.plain_types.specs.Steps.{◌>>=◌, or_fault, fault_as}

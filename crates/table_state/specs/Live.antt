@@ -1,5 +1,5 @@
 -- The files that are live in a branch, and its rows (Iceberg specification, "Snapshots", "Manifest Lists" and "Manifests").
-use Rattle.std.specs.Prelude.{ℕ, nat_eq, nat_lt, ℤ, Bool, true, false, not, ◌&&◌, codes, List, [], ◌∷◌, ◌++◌, filter, Option, Some, None, Result, Ok, Err, if◌then◌else◌}
+use Rattle.std.specs.Prelude.{ℕ, nat_eq, nat_lt, ℤ, Bool, true, false, not, ◌&&◌, codes, List, [], ◌∷◌, ◌++◌, filter, Option, Some, None, Result, Ok, if◌then◌else◌}
 use Rattle.std.specs.Cmp.Lexicographic.{pointwise}
 use Rattle.std.specs.Ordering.{int_eq}
 use Rattle.plain_types.specs.Steps.{◌>>=◌, or_fault, by_option}

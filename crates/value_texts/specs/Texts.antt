@@ -1,5 +1,5 @@
 -- Texts of values, as reports print them.
-use Rattle.std.specs.Prelude.{ℕ, ◌/◌, ◌%◌, Bool, true, false, nat_eq, if◌then◌else◌, codes, List, [], ◌∷◌, ◌++◌}
+use Rattle.std.specs.Prelude.{ℕ, ◌/◌, ◌%◌, Bool, true, false, nat_eq, if◌then◌else◌, codes, List, [], ◌∷◌}
 use Rattle.std.specs.Fmt.{signed_decimal, digit_glyph}
 use Rattle.std.specs.List.{flat_map}
 use Rattle.row_values.specs.declared.value.Value.{Value}
