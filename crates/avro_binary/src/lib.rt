@@ -1,4 +1,4 @@
-//! Avro's binary encoding: reads a schema from JSON, and datums of a schema from bytes.
+//! Avro's binary encoding: reads a schema from JSON and datums of a schema from bytes, and writes both.
 //!
 //! What is read is exactly what the grammar of the encoding has, and a fault is the first one from left to
 //! right, at its place. A reader of a part answers the bytes after it, or a fault with how many bytes are

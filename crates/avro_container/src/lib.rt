@@ -1,4 +1,4 @@
-//! Avro's object container files: reads the header, and the datums block by block.
+//! Avro's object container files: reads the header, and the datums block by block, and writes both.
 //!
 //! What is read is exactly what the grammar of files has. A file is a header and then blocks, and each is one
 //! step of a definition over the bytes that are left, so a reader of one block at a time takes the same steps.
