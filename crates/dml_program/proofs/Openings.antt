@@ -1,8 +1,7 @@
 -- A file of a version out of form is a fault of the table.
-use Rattle.std.proofs.Common.{◌≡◌, ℕ, List, Option, Some, None, Result, Ok, Err, IfErr, refl, ap, sym, subst, ◌∙◌}
+use Rattle.std.proofs.Common.{◌≡◌, ℕ, List, Option, Some, Result, Ok, Err, IfErr, refl, ap, sym, subst, ◌∙◌}
 use Rattle.std.specs.Option.{ForSome}
 use Rattle.plain_types.specs.Steps.{by_option, fault_as}
-use Rattle.row_values.specs.declared.value.Value.{Value}
 use Rattle.store_core.specs.Files.{Files}
 use Rattle.table_state.specs.Versions.{version_of}
 use Rattle.dml_program.specs.declared.status.TableKind.TheVariants.{NoVersion, Later}

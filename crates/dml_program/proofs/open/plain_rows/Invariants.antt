@@ -1,4 +1,4 @@
-use Rattle.std.proofs.Common.{◌≡◌, ◌<◌, [], length}
+use Rattle.std.proofs.Common.{◌≡◌, [], length}
 use Rattle.std.specs.Option.{ForSome}
 use Rattle.table_metadata.specs.Metadata.{parts}
 use Rattle.dml_program.specs.PlainTable.{plain_rows}
