@@ -1,0 +1,9 @@
+//! Writes the JSON of an Iceberg table's metadata of format version 2: its text, and what stands in it after a commit.
+//!
+//! A text that is written reads back as the same data, and metadata that was read as the same metadata, its unread keys
+//! among it.
+#![tactic(auto)]
+
+mod writing;
+
+pub use writing::{metadata_text, text};
