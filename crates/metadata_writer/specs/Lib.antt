@@ -1,1 +1,2 @@
+pub mod Commit
 pub mod Writable

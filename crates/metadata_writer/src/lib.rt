@@ -4,6 +4,9 @@
 //! among it.
 #![tactic(auto)]
 
+mod commit;
+mod edits;
 mod writing;
 
+pub use commit::with_snapshot;
 pub use writing::{metadata_text, text};
