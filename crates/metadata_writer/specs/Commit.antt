@@ -1,10 +1,10 @@
 -- The JSON of a table's metadata after a snapshot is put on a branch (Iceberg specification, "Table Metadata Fields",
 -- "Snapshots" and "Snapshot References"), by edits of one key each.
-use Rattle.std.specs.Prelude.{ℕ, ℤ, nat_eq, codes, List, Bool, Option, Some, None, option_and_then, if◌then◌else◌}
+use Rattle.std.specs.Prelude.{ℕ, ℤ, nat_eq, codes, List, Bool, Option, Some, None, if◌then◌else◌}
 use Rattle.std.specs.Cmp.Lexicographic.{pointwise}
 use Rattle.std.specs.Int.{int_max}
-use Rattle.serde_json.specs.Data.{Data, number, string, array, object, Items, no_items, item, Members, no_members, put}
-use Rattle.serde_json.specs.Find.{get, as_array, as_object, of_integer}
+use Rattle.serde_json.specs.Data.{Data, number, string, array, object, Items, no_items, item, no_members, put}
+use Rattle.serde_json.specs.Find.{as_object, of_integer}
 use Rattle.table_metadata.specs.declared.snapshots.Snapshot.{Snapshot}
 use Rattle.table_metadata.specs.Keys.{long_at, items_at, members_at}
 use Rattle.plain_types.specs.Steps.{by_option}

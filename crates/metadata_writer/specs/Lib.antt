@@ -1,2 +1,4 @@
 pub mod Commit
+pub mod Kept
+pub mod NewTable
 pub mod Writable

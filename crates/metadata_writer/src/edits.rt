@@ -52,6 +52,17 @@ pub(crate) fn with_number(
     with_key(alloc, json, key, Value::from(*number))
 }
 
+pub(crate) fn with_int(
+    alloc: Global,
+    json: Value,
+    key: &str,
+    number: &i32,
+) -> Result<Value, AllocError>
+    ensures { IfOk result (λ v. view v ≡ with_key key.now (long_data number.now) (view json)) }
+{
+    with_key(alloc, json, key, Value::from(*number))
+}
+
 pub(crate) fn with_long(
     alloc: Global,
     json: Value,

@@ -6,7 +6,11 @@
 
 mod commit;
 mod edits;
+mod laws;
+mod new_table;
 mod writing;
 
 pub use commit::with_snapshot;
+pub use laws::{old_snapshots_stay, other_keys_stay, other_refs_stay};
+pub use new_table::{NewTable, first_version};
 pub use writing::{metadata_text, text};
