@@ -8,9 +8,11 @@ mod commit;
 mod edits;
 mod laws;
 mod new_table;
+#[cfg(test)]
+mod tests;
 mod writing;
 
 pub use commit::with_snapshot;
-pub use laws::{old_snapshots_stay, other_keys_stay, other_refs_stay};
+pub use laws::{old_snapshots_stay, other_keys_stay, other_refs_stay, the_schema_stays, the_snapshot_is_read};
 pub use new_table::{NewTable, first_version};
 pub use writing::{metadata_text, text};
