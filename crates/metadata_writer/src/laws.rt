@@ -11,6 +11,7 @@ ghost use Rattle.row_values.specs.declared.schema.TableSchema.{TableSchema};
 ghost use Rattle.metadata_writer.specs.Fitting.{Fits};
 ghost use Rattle.metadata_writer.specs.Commit.{after_snapshot, and_item, branch_data, items_in, object_in, snapshot_data};
 ghost use Rattle.metadata_writer.specs.Kept.{IsKept};
+ghost use Rattle.metadata_writer.specs.Writable.{IsWritable};
 
 /// The keys that a commit doesn't write stay as they were, read or not.
 pub fn other_keys_stay()
@@ -39,4 +40,9 @@ pub fn the_schema_stays()
 /// The snapshots are read as before, and the new one last.
 pub fn the_snapshot_is_read()
     ensures { (branch : List ℕ) (s : Snapshot) (writer : List ℕ) (now : ℤ) (d : Data) (all : List Snapshot) → IsSome (as_object d) → Fits s → snapshots_of d ≡ Ok all → snapshots_of (after_snapshot branch s writer now d) ≡ Ok (all ++ s ∷ []) }
+{}
+
+/// What is committed onto metadata that can be written can be written.
+pub fn a_commit_can_be_written()
+    ensures { (branch : List ℕ) (s : Snapshot) (writer : List ℕ) (now : ℤ) (d : Data) → IsWritable d → IsWritable (after_snapshot branch s writer now d) }
 {}
