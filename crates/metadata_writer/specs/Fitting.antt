@@ -1,0 +1,16 @@
+-- A snapshot whose numbers have the widths of their keys.
+use Rattle.std.specs.Prelude.{◌≡◌, ◌^◌, ℤ, pos, int_lt, IsTrue, Option, Some}
+use Rattle.table_metadata.specs.declared.snapshots.Snapshot.{Snapshot}
+use Rattle.table_metadata.specs.Keys.{in_int}
+use Rattle.plain_types.specs.Steps.{by_option}
+
+abbrev pub IsLong : ℤ → Type 0
+IsLong n = IsTrue (int_lt n (pos (2 ^ 63)))
+
+pub record Fits (s : Snapshot) : Type 0 where
+  pub id : IsLong s.id
+  pub number : IsLong s.seq
+  pub time : IsLong s.timestamp_ms
+  pub parent : (n : ℤ) → s.parent ≡ Some n → IsLong n
+  pub schema : (n : ℤ) → s.schema ≡ Some n → IsLong n
+  pub schema_int : (n : ℤ) → s.schema ≡ Some n → in_int n ≡ Some n

@@ -1,0 +1,5 @@
+pub mod Commit
+pub mod Fitting
+pub mod Kept
+pub mod NewTable
+pub mod Writable

@@ -1,0 +1,45 @@
+-- The JSON of a new table's metadata (Iceberg specification, "Table Metadata Fields"): one schema, one partition spec and
+-- an empty sort order, and no snapshot.
+use Rattle.std.specs.Prelude.{pos, codes}
+use Rattle.serde_json.specs.Data.{Data, string, array, object, no_items, item, no_members}
+use Rattle.serde_json.specs.View.{view}
+use Rattle.metadata_writer.specs.Commit.{with_key, long_data}
+use Rattle.metadata_writer.specs.declared.new_table.NewTable.{NewTable}
+
+abbrev pub one_item : Data → Data
+one_item d = array (item d no_items)
+
+unfoldable pub version_keys : NewTable → Data
+version_keys t = with_key (codes "table-uuid") (string t.uuid) (with_key (codes "format-version") (long_data (pos 2)) (object no_members))
+
+unfoldable pub name_keys : NewTable → Data
+name_keys t = with_key (codes "location") (string t.location) (version_keys t)
+
+unfoldable pub time_keys : NewTable → Data
+time_keys t = with_key (codes "last-updated-ms") (long_data t.created_ms) (with_key (codes "last-sequence-number") (long_data (pos 0)) (name_keys t))
+
+unfoldable pub schema_list : NewTable → Data
+schema_list t = with_key (codes "schemas") (one_item (view t.schema)) (time_keys t)
+
+unfoldable pub schema_keys : NewTable → Data
+schema_keys t = with_key (codes "last-column-id") (long_data t.last_column) (with_key (codes "current-schema-id") (long_data t.schema_id) (schema_list t))
+
+-- the only partition spec
+unfoldable pub spec_data : Data → Data
+spec_data fields = with_key (codes "fields") fields (with_key (codes "spec-id") (long_data (pos 0)) (object no_members))
+
+unfoldable pub spec_list : NewTable → Data
+spec_list t = with_key (codes "partition-specs") (one_item (spec_data (view t.fields))) (schema_keys t)
+
+unfoldable pub spec_keys : NewTable → Data
+spec_keys t = with_key (codes "last-partition-id") (long_data t.last_partition) (with_key (codes "default-spec-id") (long_data (pos 0)) (spec_list t))
+
+-- the empty sort order
+unfoldable pub order_data : Data
+order_data = with_key (codes "fields") (array no_items) (with_key (codes "order-id") (long_data (pos 0)) (object no_members))
+
+unfoldable pub order_keys : NewTable → Data
+order_keys t = with_key (codes "default-sort-order-id") (long_data (pos 0)) (with_key (codes "sort-orders") (one_item order_data) (spec_keys t))
+
+unfoldable pub first_version : NewTable → Data
+first_version t = with_key (codes "properties") (view t.properties) (order_keys t)

@@ -1,0 +1,48 @@
+//! What a commit changes, and what it leaves. Each function says its law in its clauses, and does nothing.
+ghost use Rattle.std.specs.Prelude.{◌≡◌, ◌≢◌, ℕ, ℤ, codes, List, [], ◌∷◌, ◌++◌, Some, Ok, IsSome};
+ghost use Rattle.serde_json.specs.Data.{Data, array};
+ghost use Rattle.serde_json.specs.Find.{get, as_object};
+ghost use Rattle.table_metadata.specs.declared.snapshots.Snapshot.{Snapshot};
+ghost use Rattle.table_metadata.specs.Properties.{properties_of};
+ghost use Rattle.table_metadata.specs.SchemaList.{schemas_of, specs_of};
+ghost use Rattle.table_metadata.specs.Snapshots.{snapshots_of};
+ghost use Rattle.table_metadata.specs.TableKeys.{current_ids_of};
+ghost use Rattle.row_values.specs.declared.schema.TableSchema.{TableSchema};
+ghost use Rattle.metadata_writer.specs.Fitting.{Fits};
+ghost use Rattle.metadata_writer.specs.Commit.{after_snapshot, and_item, branch_data, items_in, object_in, snapshot_data};
+ghost use Rattle.metadata_writer.specs.Kept.{IsKept};
+ghost use Rattle.metadata_writer.specs.Writable.{IsWritable};
+
+/// The keys that a commit doesn't write stay as they were, read or not.
+pub fn other_keys_stay()
+    ensures { (branch : List ℕ) (s : Snapshot) (writer : List ℕ) (now : ℤ) (d : Data) (key : List ℕ) → IsKept branch key → get key (after_snapshot branch s writer now d) ≡ get key d }
+{}
+
+/// The snapshots are the old ones in their order, and the new one.
+pub fn old_snapshots_stay()
+    ensures { (branch : List ℕ) (s : Snapshot) (writer : List ℕ) (now : ℤ) (d : Data) → IsSome (as_object d) → get (codes "snapshots") (after_snapshot branch s writer now d) ≡ Some (array (and_item (snapshot_data s) (items_in (codes "snapshots") d))) }
+{}
+
+/// Every other ref stays, and the branch is on the snapshot.
+pub fn other_refs_stay()
+    ensures others { (branch : List ℕ) (s : Snapshot) (writer : List ℕ) (now : ℤ) (d : Data) (name : List ℕ) → IsSome (as_object d) → name ≢ branch → get name (object_in (codes "refs") (after_snapshot branch s writer now d)) ≡ get name (object_in (codes "refs") d) }
+    ensures its { (branch : List ℕ) (s : Snapshot) (writer : List ℕ) (now : ℤ) (d : Data) → IsSome (as_object d) → get branch (object_in (codes "refs") (after_snapshot branch s writer now d)) ≡ Some (branch_data s.id (object_in branch (object_in (codes "refs") d))) }
+{}
+
+/// The schemas, the specs, the properties and the current ids are read as before.
+pub fn the_schema_stays()
+    ensures schemas { (branch : List ℕ) (s : Snapshot) (writer : List ℕ) (now : ℤ) (d : Data) → schemas_of (after_snapshot branch s writer now d) ≡ schemas_of d }
+    ensures specs { (branch : List ℕ) (s : Snapshot) (writer : List ℕ) (now : ℤ) (d : Data) (id : ℤ) (schemas : List TableSchema) → specs_of id schemas (after_snapshot branch s writer now d) ≡ specs_of id schemas d }
+    ensures properties { (branch : List ℕ) (s : Snapshot) (writer : List ℕ) (now : ℤ) (d : Data) → properties_of (after_snapshot branch s writer now d) ≡ properties_of d }
+    ensures ids { (branch : List ℕ) (s : Snapshot) (writer : List ℕ) (now : ℤ) (d : Data) → current_ids_of (after_snapshot branch s writer now d) ≡ current_ids_of d }
+{}
+
+/// The snapshots are read as before, and the new one last.
+pub fn the_snapshot_is_read()
+    ensures { (branch : List ℕ) (s : Snapshot) (writer : List ℕ) (now : ℤ) (d : Data) (all : List Snapshot) → IsSome (as_object d) → Fits s → snapshots_of d ≡ Ok all → snapshots_of (after_snapshot branch s writer now d) ≡ Ok (all ++ s ∷ []) }
+{}
+
+/// What is committed onto metadata that can be written can be written.
+pub fn a_commit_can_be_written()
+    ensures { (branch : List ℕ) (s : Snapshot) (writer : List ℕ) (now : ℤ) (d : Data) → IsWritable d → IsWritable (after_snapshot branch s writer now d) }
+{}

@@ -1,0 +1,18 @@
+//! Writes the JSON of an Iceberg table's metadata of format version 2: its text, and what stands in it after a commit.
+//!
+//! A text that is written reads back as the same data, and metadata that was read as the same metadata, its unread keys
+//! among it.
+#![tactic(auto)]
+
+mod commit;
+mod edits;
+mod laws;
+mod new_table;
+#[cfg(test)]
+mod tests;
+mod writing;
+
+pub use commit::with_snapshot;
+pub use laws::{a_commit_can_be_written, old_snapshots_stay, other_keys_stay, other_refs_stay, the_schema_stays, the_snapshot_is_read};
+pub use new_table::{NewTable, first_version};
+pub use writing::{metadata_text, text};
