@@ -53,11 +53,11 @@ properties-after_snapshot branch s writer now d = same_properties d _ (stays bra
 pub ids-after_snapshot : (branch : List ℕ) (s : Snapshot) (writer : List ℕ) (now : ℤ) (d : Data) → current_ids_of (after_snapshot branch s writer now d) ≡ current_ids_of d
 ids-after_snapshot branch s writer now d =
     same_ids d _
-        (stays branch s writer now d (codes "schemas") refl refl refl refl refl refl refl)
-        (stays branch s writer now d (codes "current-schema-id") refl refl refl refl refl refl refl)
-        (stays branch s writer now d (codes "partition-specs") refl refl refl refl refl refl refl)
-        (stays branch s writer now d (codes "default-spec-id") refl refl refl refl refl refl refl)
-        (stays branch s writer now d (codes "last-partition-id") refl refl refl refl refl refl refl)
+    (stays branch s writer now d (codes "schemas") refl refl refl refl refl refl refl)
+    (stays branch s writer now d (codes "current-schema-id") refl refl refl refl refl refl refl)
+    (stays branch s writer now d (codes "partition-specs") refl refl refl refl refl refl refl)
+    (stays branch s writer now d (codes "default-spec-id") refl refl refl refl refl refl refl)
+    (stays branch s writer now d (codes "last-partition-id") refl refl refl refl refl refl refl)
 
 -- ---- the snapshots
 
