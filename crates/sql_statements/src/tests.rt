@@ -327,3 +327,83 @@ fn two_matches_are_refused_where_the_condition_is_false(rt: HostRuntime) -> Resu
     assert!(rt; is_refused(rt.alloc(), &statement, &TABLE, &TWO_MATCHES, why));
     Ok(())
 }
+
+fn insert(alloc: Global, key: Value, n: Value) -> Result<Statement, AllocError> {
+    let row = two(alloc, Expr::Literal(key), Expr::Literal(n))?;
+    Ok(Statement::Insert {
+        branch: Text::copy_of(alloc, "main")?,
+        rows: one(alloc, row)?,
+    })
+}
+
+#[test]
+fn an_insert_adds_its_row(rt: HostRuntime) -> Result<(), AllocError> {
+    let statement = insert(rt.alloc(), Value::Int(3), Value::Null)?;
+    let wanted = [TABLE[0], TABLE[1], [Some(3), None]];
+    assert!(rt; leaves(rt.alloc(), &statement, &TABLE, &[], &wanted));
+    Ok(())
+}
+
+#[test]
+fn an_insert_of_null_into_a_required_column_is_refused(rt: HostRuntime) -> Result<(), AllocError> {
+    let statement = insert(rt.alloc(), Value::Null, Value::Int(1))?;
+    assert!(rt; is_refused(rt.alloc(), &statement, &TABLE, &[], SqlRefusal::Null(0)));
+    Ok(())
+}
+
+/// WHEN MATCHED THEN UPDATE SET key = NULL.
+fn merge_to_null(alloc: Global) -> Result<Statement, AllocError> {
+    let sets = one(alloc, set(0, Expr::Literal(Value::Null)))?;
+    let update = clause(When::Matched, Pred::Const(true), Action::Update(sets));
+    merge(alloc, one(alloc, update)?)
+}
+
+#[test]
+fn a_merge_to_null_in_a_required_column_is_refused(rt: HostRuntime) -> Result<(), AllocError> {
+    let statement = merge_to_null(rt.alloc())?;
+    let why = SqlRefusal::Null(0);
+    assert!(rt; is_refused(rt.alloc(), &statement, &TABLE, &ONE_MATCH, why));
+    assert!(rt; leaves(rt.alloc(), &statement, &TABLE, &NO_MATCH, &TABLE));
+    Ok(())
+}
+
+/// WHEN NOT MATCHED AND source.n = 30 THEN INSERT (source.key, source.n).
+fn insert_where(alloc: Global) -> Result<Statement, AllocError> {
+    let row = two(alloc, Expr::Column(2), Expr::Column(3))?;
+    let condition = is_number(Op::Equal, 3, 30);
+    let insert = clause(When::NotMatched, condition, Action::Insert(row));
+    merge(alloc, one(alloc, insert)?)
+}
+
+#[test]
+fn a_source_row_that_no_clause_takes_is_not_inserted(rt: HostRuntime) -> Result<(), AllocError> {
+    let statement = insert_where(rt.alloc())?;
+    let wanted = [TABLE[0], TABLE[1], NO_MATCH[0]];
+    assert!(rt; leaves(rt.alloc(), &statement, &TABLE, &NO_MATCH, &wanted));
+    assert!(rt;
+        leaves(
+            rt.alloc(),
+            &statement,
+            &TABLE,
+            &[[Some(3), Some(31)]],
+            &TABLE
+        )
+    );
+    Ok(())
+}
+
+/// WHEN NOT MATCHED BY SOURCE AND n = 10 THEN UPDATE SET n = NULL.
+fn update_without_source(alloc: Global) -> Result<Statement, AllocError> {
+    let sets = one(alloc, set(1, Expr::Literal(Value::Null)))?;
+    let condition = is_number(Op::Equal, 1, 10);
+    let update = clause(When::NotMatchedBySource, condition, Action::Update(sets));
+    merge(alloc, one(alloc, update)?)
+}
+
+#[test]
+fn a_condition_chooses_among_rows_without_a_source_row(rt: HostRuntime) -> Result<(), AllocError> {
+    let statement = update_without_source(rt.alloc())?;
+    let wanted = [[Some(1), None], TABLE[1]];
+    assert!(rt; leaves(rt.alloc(), &statement, &TABLE, &NO_MATCH, &wanted));
+    Ok(())
+}
