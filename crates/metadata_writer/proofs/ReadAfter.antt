@@ -1,17 +1,17 @@
 -- What is read after a commit of the keys that it leaves, and of the snapshots.
-use Rattle.std.proofs.Common.{◌≡◌, ◌^◌, ℕ, ℤ, pos, negsuc, int_lt, IsTrue, List, [], ◌∷◌, ◌++◌, Bool, true, false, codes, Option, Some, None, Result, Ok, Err, IsSome, bytes_eq, option_and_then, refl, sym, ap, ◌∙◌}
-use Rattle.serde_json.specs.Data.{Data, Items, no_items, item, array, number}
-use Rattle.serde_json.specs.Find.{get, as_object, as_array, as_i64, of_integer}
+use Rattle.std.proofs.Common.{◌≡◌, ℕ, ℤ, pos, negsuc, List, [], ◌∷◌, ◌++◌, false, codes, Option, Some, None, Result, Ok, Err, IsSome, bytes_eq, refl, ◌∙◌}
+use Rattle.serde_json.specs.Data.{Data, Items, no_items, item, array}
+use Rattle.serde_json.specs.Find.{get, as_object, as_i64, of_integer}
 use Rattle.row_values.specs.declared.schema.TableSchema.{TableSchema}
 use Rattle.table_metadata.specs.declared.snapshots.Snapshot.{Snapshot}
 use Rattle.table_metadata.specs.declared.metadata_fault.MetadataFault.{MetadataFault}
-use Rattle.table_metadata.specs.Keys.{long_at, items_at, long_of, in_int}
+use Rattle.table_metadata.specs.Keys.{items_at, in_int}
 use Rattle.table_metadata.specs.Properties.{properties_of, retries_of, least_to_merge_of}
 use Rattle.table_metadata.specs.SchemaList.{schemas_of, specs_of}
 use Rattle.table_metadata.specs.Snapshots.{snapshot_of, snapshots_from, snapshots_of, operation_of, operation_in}
 use Rattle.table_metadata.specs.TableKeys.{current_ids_of}
 use Rattle.plain_types.specs.Steps.{◌>>=◌, by_option}
-use Rattle.metadata_writer.specs.Commit.{after_snapshot, and_item, items_in, snapshot_data, needed_keys, number_keys, summary_data, with_key, with_long, long_data}
+use Rattle.metadata_writer.specs.Commit.{after_snapshot, and_item, items_in, snapshot_data, needed_keys, number_keys, summary_data, with_key}
 use Rattle.metadata_writer.specs.Fitting.{IsLong, Fits}
 use Rattle.metadata_writer.specs.Kept.{IsKept}
 use Rattle.metadata_writer.proofs.Kept.{apart, kept-after_snapshot, snapshots-after_snapshot}
@@ -53,11 +53,11 @@ properties-after_snapshot branch s writer now d = same_properties d _ (stays bra
 pub ids-after_snapshot : (branch : List ℕ) (s : Snapshot) (writer : List ℕ) (now : ℤ) (d : Data) → current_ids_of (after_snapshot branch s writer now d) ≡ current_ids_of d
 ids-after_snapshot branch s writer now d =
     same_ids d _
-        (stays branch s writer now d (codes "schemas") refl refl refl refl refl refl refl)
-        (stays branch s writer now d (codes "current-schema-id") refl refl refl refl refl refl refl)
-        (stays branch s writer now d (codes "partition-specs") refl refl refl refl refl refl refl)
-        (stays branch s writer now d (codes "default-spec-id") refl refl refl refl refl refl refl)
-        (stays branch s writer now d (codes "last-partition-id") refl refl refl refl refl refl refl)
+    (stays branch s writer now d (codes "schemas") refl refl refl refl refl refl refl)
+    (stays branch s writer now d (codes "current-schema-id") refl refl refl refl refl refl refl)
+    (stays branch s writer now d (codes "partition-specs") refl refl refl refl refl refl refl)
+    (stays branch s writer now d (codes "default-spec-id") refl refl refl refl refl refl refl)
+    (stays branch s writer now d (codes "last-partition-id") refl refl refl refl refl refl refl)
 
 -- ---- the snapshots
 

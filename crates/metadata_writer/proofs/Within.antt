@@ -1,14 +1,12 @@
 -- Edits of a value that has no float and nests no deeper than a bound keep it so.
-use Rattle.std.proofs.Common.{◌≡◌, ◌≤◌, ◌||◌, ℕ, suc, max, ℤ, pos, negsuc, List, Bool, true, false, codes, Option, Some, None, IsSome, Ordering, Less, Equal, Greater, cond, option_and_then, refl, arith}
+use Rattle.std.proofs.Common.{◌≡◌, ◌≤◌, ◌||◌, ℕ, suc, ℤ, pos, negsuc, List, Bool, true, false, codes, Option, Some, None, IsSome, Ordering, Less, Equal, Greater, cond, option_and_then, refl, arith}
 use Rattle.std.specs.Prelude.{⊤}
 use Rattle.std.specs.Ordering.{nat_cmp, match_ordering}
 use Rattle.std.specs.Cmp.Lexicographic.{slice_cmp}
 use Rattle.serde_json.specs.Data.{Data, null, boolean, number, string, array, object, Items, no_items, item, Members, no_members, member, put, depth, items_depth, members_depth}
-use Rattle.serde_json.specs.Find.{get, get_member, as_object, as_array, of_integer}
-use Rattle.serde_json.specs.Read.{max_depth}
+use Rattle.serde_json.specs.Find.{get, get_member, as_object, as_array}
 use Rattle.serde_json.specs.Written.{has_float, items_have_float, members_have_float}
 use Rattle.table_metadata.specs.declared.snapshots.Snapshot.{Snapshot}
-use Rattle.table_metadata.specs.Keys.{items_at, members_at}
 use Rattle.plain_types.specs.Steps.{by_option}
 use Rattle.metadata_writer.specs.Commit.{with_key, with_item, with_long, items_in, object_in, and_item, long_data, after_snapshot, branch_data, log_line, snapshot_data, needed_keys, number_keys, summary_data, with_snapshot_listed, refs_after, with_branch_on, with_current, with_change, is_main}
 use Rattle.metadata_writer.specs.Writable.{IsWritable}
@@ -58,9 +56,9 @@ put-within : (n : ℕ) (k : List ℕ) (v : Data) (ms : Members) → Within n v �
 put-within n k v no_members w ws = member-within n k v no_members w ws
 put-within n k v (member l e ms) w ws =
     one_of-within (slice_cmp nat_cmp k l) n _ _ _
-        (member-within n k v _ w ws)
-        (member-within n l v ms w (rest-within n l e ms ws))
-        (member-within n l e _ (first-within n l e ms ws) (put-within n k v ms w (rest-within n l e ms ws)))
+    (member-within n k v _ w ws)
+    (member-within n l v ms w (rest-within n l e ms ws))
+    (member-within n l e _ (first-within n l e ms ws) (put-within n k v ms w (rest-within n l e ms ws)))
 
 found_at : (o : Ordering) (n : ℕ) (a b : Option Data) → FoundWithin n a → FoundWithin n b → FoundWithin n (match_ordering o a b a)
 found_at Less n a b x y = x
@@ -170,8 +168,8 @@ number_keys-within : (n : ℕ) (s : Snapshot) → Within (suc n) (number_keys s)
 unfolding number_keys
 number_keys-within n s =
     with_key-within n (codes "timestamp-ms") _ _ (long-within n s.timestamp_ms)
-        (with_key-within n (codes "sequence-number") _ _ (long-within n s.seq)
-            (with_key-within n (codes "snapshot-id") _ _ (long-within n s.id) (empty-within n)))
+    (with_key-within n (codes "sequence-number") _ _ (long-within n s.seq)
+    (with_key-within n (codes "snapshot-id") _ _ (long-within n s.id) (empty-within n)))
 
 needed_keys-within : (n : ℕ) (s : Snapshot) → Within (suc n) (needed_keys s)
 unfolding needed_keys
@@ -181,14 +179,14 @@ snapshot_data-within : (n : ℕ) (s : Snapshot) → Within (suc (suc n)) (snapsh
 unfolding snapshot_data
 snapshot_data-within n s =
     with_key-within (suc n) (codes "summary") _ _ (summary_data-within n s.operation)
-        (with_long-within (suc n) (codes "schema-id") s.schema _
-            (with_long-within (suc n) (codes "parent-snapshot-id") s.parent _ (needed_keys-within (suc n) s)))
+    (with_long-within (suc n) (codes "schema-id") s.schema _
+    (with_long-within (suc n) (codes "parent-snapshot-id") s.parent _ (needed_keys-within (suc n) s)))
 
 log_line-within : (n : ℕ) (s : Snapshot) → Within (suc n) (log_line s)
 unfolding log_line
 log_line-within n s =
     with_key-within n (codes "timestamp-ms") _ _ (long-within n s.timestamp_ms)
-        (with_key-within n (codes "snapshot-id") _ _ (long-within n s.id) (empty-within n))
+    (with_key-within n (codes "snapshot-id") _ _ (long-within n s.id) (empty-within n))
 
 branch_data-within : (n : ℕ) (id : ℤ) (old : Data) → Within (suc n) old → Within (suc n) (branch_data id old)
 unfolding branch_data
@@ -199,7 +197,7 @@ listed-within : (n : ℕ) (s : Snapshot) (d : Data) → Within (suc (suc (suc (s
 unfolding with_snapshot_listed
 listed-within n s d w =
     with_key-within (suc (suc (suc n))) (codes "last-sequence-number") _ _ (long-within (suc (suc (suc n))) s.seq)
-        (with_item-within (suc (suc n)) (codes "snapshots") _ d (snapshot_data-within n s) w)
+    (with_item-within (suc (suc n)) (codes "snapshots") _ d (snapshot_data-within n s) w)
 
 refs_after-within : (n : ℕ) (branch : List ℕ) (id : ℤ) (refs : Data) → Within (suc (suc n)) refs → Within (suc (suc n)) (refs_after branch id refs)
 unfolding refs_after
@@ -219,8 +217,8 @@ current-within : (n : ℕ) (branch : List ℕ) (s : Snapshot) (d : Data) → Wit
 unfolding with_current
 current-within n branch s d w =
     either-within (is_main branch) (suc (suc (suc n))) _ d
-        (with_item-within (suc n) (codes "snapshot-log") _ _ (log_line-within n s) (with_key-within (suc (suc n)) (codes "current-snapshot-id") _ d (long-within (suc (suc n)) s.id) w))
-        w
+    (with_item-within (suc n) (codes "snapshot-log") _ _ (log_line-within n s) (with_key-within (suc (suc n)) (codes "current-snapshot-id") _ d (long-within (suc (suc n)) s.id) w))
+    w
 
 change-within : (n : ℕ) (writer : List ℕ) (now : ℤ) (d : Data) → Within (suc n) d → Within (suc n) (with_change writer now d)
 unfolding with_change
@@ -247,10 +245,10 @@ after-object : (branch : List ℕ) (s : Snapshot) (writer : List ℕ) (now : ℤ
 unfolding after_snapshot with_change with_branch_on with_snapshot_listed
 after-object branch s writer now d is =
     object-with_key (codes "dml-writer") _ _
-        (object-with_key (codes "last-updated-ms") _ _
-            (current-object branch s _
-                (object-with_key (codes "refs") _ _
-                    (object-with_key (codes "last-sequence-number") _ _ (object-with_item (codes "snapshots") _ d is)))))
+    (object-with_key (codes "last-updated-ms") _ _
+    (current-object branch s _
+    (object-with_key (codes "refs") _ _
+    (object-with_key (codes "last-sequence-number") _ _ (object-with_item (codes "snapshots") _ d is)))))
 
 pub writable-after_snapshot : (branch : List ℕ) (s : Snapshot) (writer : List ℕ) (now : ℤ) (d : Data) → IsWritable d → IsWritable (after_snapshot branch s writer now d)
 writable-after_snapshot branch s writer now d w =

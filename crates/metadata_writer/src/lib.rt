@@ -13,6 +13,9 @@ mod tests;
 mod writing;
 
 pub use commit::with_snapshot;
-pub use laws::{a_commit_can_be_written, old_snapshots_stay, other_keys_stay, other_refs_stay, the_schema_stays, the_snapshot_is_read};
+pub use laws::{
+    a_commit_can_be_written, old_snapshots_stay, other_keys_stay, other_refs_stay,
+    the_schema_stays, the_snapshot_is_read,
+};
 pub use new_table::{NewTable, first_version};
 pub use writing::{metadata_text, text};
