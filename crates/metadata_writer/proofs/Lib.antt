@@ -1,5 +1,7 @@
+pub mod CurrentAfter
 pub mod Items
 pub mod Kept
+pub mod PlainAfter
 pub mod ReadAfter
 pub mod Texts
 pub mod Within

@@ -38,7 +38,7 @@ unfolding current_ids_of
 same_ids d e a b c f g = rw (a, b, c, f, g) refl
 
 -- a key that the tests tell from those that a commit writes
-stays : (branch : List ℕ) (s : Snapshot) (writer : List ℕ) (now : ℤ) (d : Data) (q : List ℕ) → bytes_eq q (codes "snapshots") ≡ false → bytes_eq q (codes "last-sequence-number") ≡ false → bytes_eq q (codes "refs") ≡ false → bytes_eq q (codes "current-snapshot-id") ≡ false → bytes_eq q (codes "snapshot-log") ≡ false → bytes_eq q (codes "last-updated-ms") ≡ false → bytes_eq q (codes "dml-writer") ≡ false → get q (after_snapshot branch s writer now d) ≡ get q d
+pub stays : (branch : List ℕ) (s : Snapshot) (writer : List ℕ) (now : ℤ) (d : Data) (q : List ℕ) → bytes_eq q (codes "snapshots") ≡ false → bytes_eq q (codes "last-sequence-number") ≡ false → bytes_eq q (codes "refs") ≡ false → bytes_eq q (codes "current-snapshot-id") ≡ false → bytes_eq q (codes "snapshot-log") ≡ false → bytes_eq q (codes "last-updated-ms") ≡ false → bytes_eq q (codes "dml-writer") ≡ false → get q (after_snapshot branch s writer now d) ≡ get q d
 stays branch s writer now d q a b c e f g h = kept-after_snapshot branch s writer now d q (kept_key branch q a b c e f g h)
 
 pub schemas-after_snapshot : (branch : List ℕ) (s : Snapshot) (writer : List ℕ) (now : ℤ) (d : Data) → schemas_of (after_snapshot branch s writer now d) ≡ schemas_of d
@@ -73,7 +73,7 @@ unfolding snapshots_from
 snapshots_from-and_item earlier v no_items = refl
 snapshots_from-and_item earlier v (item d ds) = through (snapshot_of d) _ _ (then_one v) (λ s. snapshots_from-and_item (earlier ++ s ∷ []) v ds)
 
-as_i64-of_integer : (z : ℤ) → IsLong z → as_i64 (of_integer z) ≡ Some z
+pub as_i64-of_integer : (z : ℤ) → IsLong z → as_i64 (of_integer z) ≡ Some z
 as_i64-of_integer (pos n) h = rw h refl
 as_i64-of_integer (negsuc n) h = refl
 

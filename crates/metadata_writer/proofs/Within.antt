@@ -236,7 +236,7 @@ either-object : (b : Bool) (e d : Data) → IsSome (as_object e) → IsSome (as_
 either-object true e d x y = x
 either-object false e d x y = y
 
-current-object : (branch : List ℕ) (s : Snapshot) (d : Data) → IsSome (as_object d) → IsSome (as_object (with_current branch s d))
+pub current-object : (branch : List ℕ) (s : Snapshot) (d : Data) → IsSome (as_object d) → IsSome (as_object (with_current branch s d))
 unfolding with_current
 current-object branch s d is =
     either-object (is_main branch) _ d (object-with_item (codes "snapshot-log") _ _ (object-with_key (codes "current-snapshot-id") _ d is)) is
