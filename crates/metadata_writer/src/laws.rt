@@ -1,7 +1,9 @@
 //! What a commit changes, and what it leaves. Each function says its law in its clauses, and does nothing.
-ghost use Rattle.std.specs.Prelude.{◌≡◌, ◌≢◌, ℕ, ℤ, pos, neg_ℤ, true, false, codes, List, [], ◌∷◌, ◌++◌, Some, Ok, IsSome};
+ghost use Rattle.std.specs.Prelude.{◌≡◌, ◌≢◌, ◌≤◌, ℕ, ℤ, pos, neg_ℤ, true, false, codes, List, [], ◌∷◌, ◌++◌, Some, Ok, IsSome};
 ghost use Rattle.std.specs.Ordering.{int_eq};
-ghost use Rattle.serde_json.specs.Data.{Data, array};
+ghost use Rattle.serde_json.specs.Data.{Data, array, depth};
+ghost use Rattle.serde_json.specs.View.{view};
+ghost use Rattle.serde_json.specs.Written.{has_float};
 ghost use Rattle.serde_json.specs.Find.{get, as_object};
 ghost use Rattle.table_metadata.specs.declared.snapshots.Snapshot.{Snapshot};
 ghost use Rattle.table_metadata.specs.Properties.{properties_of};
@@ -12,6 +14,8 @@ ghost use Rattle.row_values.specs.declared.schema.TableSchema.{TableSchema};
 ghost use Rattle.metadata_writer.specs.Fitting.{Fits, IsLong};
 ghost use Rattle.metadata_writer.specs.Commit.{after_snapshot, and_item, branch_data, is_main, items_in, log_line, object_in, snapshot_data, time_after};
 ghost use Rattle.metadata_writer.specs.Kept.{IsKept};
+ghost use Rattle.metadata_writer.specs.NewTable.{first_version};
+ghost use Rattle.metadata_writer.specs.declared.new_table.NewTable.{NewTable};
 ghost use Rattle.metadata_writer.specs.Writable.{IsWritable};
 
 /// The keys that a commit doesn't write stay as they were, read or not.
@@ -62,4 +66,9 @@ pub fn the_head_of_main_is_current()
 /// A commit on another branch leaves the current snapshot.
 pub fn other_branches_leave_the_current_snapshot()
     ensures { (branch : List ℕ) (s : Snapshot) (writer : List ℕ) (now : ℤ) (d : Data) → is_main branch ≡ false → current_snapshot_of (after_snapshot branch s writer now d) ≡ current_snapshot_of d }
+{}
+
+/// The first version of a table can be written where its parts have no float and nest less deep than a text may.
+pub fn the_first_version_can_be_written()
+    ensures { (t : NewTable) → has_float (view t.schema) ≡ false → depth (view t.schema) ≤ 125 → has_float (view t.fields) ≡ false → depth (view t.fields) ≤ 124 → has_float (view t.properties) ≡ false → depth (view t.properties) ≤ 126 → IsWritable (first_version t) }
 {}
