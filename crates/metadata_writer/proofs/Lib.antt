@@ -4,5 +4,6 @@ pub mod Kept
 pub mod NewWithin
 pub mod PlainAfter
 pub mod ReadAfter
+pub mod StandAfter
 pub mod Texts
 pub mod Within

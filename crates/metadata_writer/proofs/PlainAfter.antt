@@ -14,7 +14,7 @@ use Rattle.metadata_writer.proofs.Kept.{apart, get-with_branch_on, get-with_chan
 use Rattle.metadata_writer.proofs.ReadAfter.{as_i64-of_integer, stays}
 use Rattle.metadata_writer.proofs.Within.{current-object}
 
-number-after_snapshot : (branch : List ℕ) (s : Snapshot) (writer : List ℕ) (now : ℤ) (d : Data) → IsSome (as_object d) → get (codes "last-sequence-number") (after_snapshot branch s writer now d) ≡ Some (long_data s.seq)
+pub number-after_snapshot : (branch : List ℕ) (s : Snapshot) (writer : List ℕ) (now : ℤ) (d : Data) → IsSome (as_object d) → get (codes "last-sequence-number") (after_snapshot branch s writer now d) ≡ Some (long_data s.seq)
 unfolding after_snapshot with_snapshot_listed
 number-after_snapshot branch s writer now d is =
     get-with_change (codes "last-sequence-number") writer now _ (apart _ _ refl) (apart _ _ refl)
@@ -35,7 +35,7 @@ pub object-with_branch_on : (branch : List ℕ) (id : ℤ) (d : Data) → IsSome
 unfolding with_branch_on
 object-with_branch_on branch id d is = object-with_key (codes "refs") _ d is
 
-time-after_snapshot : (branch : List ℕ) (s : Snapshot) (writer : List ℕ) (now : ℤ) (d : Data) → IsSome (as_object d) → get (codes "last-updated-ms") (after_snapshot branch s writer now d) ≡ Some (long_data (time_after now d))
+pub time-after_snapshot : (branch : List ℕ) (s : Snapshot) (writer : List ℕ) (now : ℤ) (d : Data) → IsSome (as_object d) → get (codes "last-updated-ms") (after_snapshot branch s writer now d) ≡ Some (long_data (time_after now d))
 unfolding after_snapshot
 time-after_snapshot branch s writer now d is =
     time-with_change writer now _ (current-object branch s _ (object-with_branch_on branch s.id _ (object-with_snapshot_listed s d is)))

@@ -6,6 +6,7 @@ ghost use Rattle.serde_json.specs.View.{view};
 ghost use Rattle.serde_json.specs.Written.{has_float};
 ghost use Rattle.serde_json.specs.Find.{get, as_object};
 ghost use Rattle.table_metadata.specs.declared.snapshots.Snapshot.{Snapshot};
+ghost use Rattle.table_metadata.specs.MissingKeys.{keys_stand};
 ghost use Rattle.table_metadata.specs.Properties.{properties_of};
 ghost use Rattle.table_metadata.specs.SchemaList.{schemas_of, specs_of};
 ghost use Rattle.table_metadata.specs.Snapshots.{snapshots_of};
@@ -71,4 +72,9 @@ pub fn other_branches_leave_the_current_snapshot()
 /// The first version of a table can be written where its parts have no float and nest less deep than a text may.
 pub fn the_first_version_can_be_written()
     ensures { (t : NewTable) → has_float (view t.schema) ≡ false → depth (view t.schema) ≤ 125 → has_float (view t.fields) ≡ false → depth (view t.fields) ≤ 124 → has_float (view t.properties) ≡ false → depth (view t.properties) ≤ 126 → IsWritable (first_version t) }
+{}
+
+/// No needed key is absent after a commit, if none was before.
+pub fn the_needed_keys_stay()
+    ensures { (branch : List ℕ) (s : Snapshot) (writer : List ℕ) (now : ℤ) (d : Data) → IsSome (as_object d) → keys_stand d ≡ Ok tt → keys_stand (after_snapshot branch s writer now d) ≡ Ok tt }
 {}
