@@ -79,21 +79,21 @@ kept_if : (b : Bool) (q : List ℕ) (e d : Data) → (b ≡ true → get q e ≡
 kept_if true q e d h = h refl
 kept_if false q e d h = refl
 
-get-with_current : (q branch : List ℕ) (s : Snapshot) (d : Data) → (is_main branch ≡ true → q ≢ codes "current-snapshot-id") → (is_main branch ≡ true → q ≢ codes "snapshot-log") → get q (with_current branch s d) ≡ get q d
+pub get-with_current : (q branch : List ℕ) (s : Snapshot) (d : Data) → (is_main branch ≡ true → q ≢ codes "current-snapshot-id") → (is_main branch ≡ true → q ≢ codes "snapshot-log") → get q (with_current branch s d) ≡ get q d
 unfolding with_current
 get-with_current q branch s d current log =
     kept_if (is_main branch) q _ d (λ e. get-with_item_other q (codes "snapshot-log") (log_line s) _ (log e) ∙ get-with_key_other q (codes "current-snapshot-id") _ d (current e))
 
-get-with_change : (q writer : List ℕ) (now : ℤ) (d : Data) → q ≢ codes "last-updated-ms" → q ≢ codes "dml-writer" → get q (with_change writer now d) ≡ get q d
+pub get-with_change : (q writer : List ℕ) (now : ℤ) (d : Data) → q ≢ codes "last-updated-ms" → q ≢ codes "dml-writer" → get q (with_change writer now d) ≡ get q d
 unfolding with_change
 get-with_change q writer now d time key =
     get-with_key_other q (codes "dml-writer") _ _ key ∙ get-with_key_other q (codes "last-updated-ms") _ d time
 
-get-with_branch_on : (q branch : List ℕ) (id : ℤ) (d : Data) → q ≢ codes "refs" → get q (with_branch_on branch id d) ≡ get q d
+pub get-with_branch_on : (q branch : List ℕ) (id : ℤ) (d : Data) → q ≢ codes "refs" → get q (with_branch_on branch id d) ≡ get q d
 unfolding with_branch_on
 get-with_branch_on q branch id d refs = get-with_key_other q (codes "refs") _ d refs
 
-get-with_snapshot_listed : (q : List ℕ) (s : Snapshot) (d : Data) → q ≢ codes "snapshots" → q ≢ codes "last-sequence-number" → get q (with_snapshot_listed s d) ≡ get q d
+pub get-with_snapshot_listed : (q : List ℕ) (s : Snapshot) (d : Data) → q ≢ codes "snapshots" → q ≢ codes "last-sequence-number" → get q (with_snapshot_listed s d) ≡ get q d
 unfolding with_snapshot_listed
 get-with_snapshot_listed q s d list last =
     get-with_key_other q (codes "last-sequence-number") _ _ last ∙ get-with_item_other q (codes "snapshots") _ d list
@@ -117,7 +117,7 @@ snapshots-after_snapshot branch s writer now d is =
     ∙ get-with_key_other (codes "snapshots") (codes "last-sequence-number") _ _ (apart _ _ refl)
     ∙ get-with_item (codes "snapshots") (snapshot_data s) d is
 
-object-with_snapshot_listed : (s : Snapshot) (d : Data) → IsSome (as_object d) → IsSome (as_object (with_snapshot_listed s d))
+pub object-with_snapshot_listed : (s : Snapshot) (d : Data) → IsSome (as_object d) → IsSome (as_object (with_snapshot_listed s d))
 unfolding with_snapshot_listed
 object-with_snapshot_listed s d is = object-with_key (codes "last-sequence-number") _ _ (object-with_item (codes "snapshots") _ d is)
 

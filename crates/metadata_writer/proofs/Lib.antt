@@ -1,5 +1,9 @@
+pub mod CurrentAfter
 pub mod Items
 pub mod Kept
+pub mod NewWithin
+pub mod PlainAfter
 pub mod ReadAfter
+pub mod StandAfter
 pub mod Texts
 pub mod Within

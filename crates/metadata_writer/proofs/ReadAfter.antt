@@ -1,17 +1,17 @@
 -- What is read after a commit of the keys that it leaves, and of the snapshots.
-use Rattle.std.proofs.Common.{◌≡◌, ◌^◌, ℕ, ℤ, pos, negsuc, int_lt, IsTrue, List, [], ◌∷◌, ◌++◌, Bool, true, false, codes, Option, Some, None, Result, Ok, Err, IsSome, bytes_eq, option_and_then, refl, sym, ap, ◌∙◌}
-use Rattle.serde_json.specs.Data.{Data, Items, no_items, item, array, number}
-use Rattle.serde_json.specs.Find.{get, as_object, as_array, as_i64, of_integer}
+use Rattle.std.proofs.Common.{◌≡◌, ℕ, ℤ, pos, negsuc, List, [], ◌∷◌, ◌++◌, false, codes, Option, Some, None, Result, Ok, Err, IsSome, bytes_eq, refl, ◌∙◌}
+use Rattle.serde_json.specs.Data.{Data, Items, no_items, item, array}
+use Rattle.serde_json.specs.Find.{get, as_object, as_i64, of_integer}
 use Rattle.row_values.specs.declared.schema.TableSchema.{TableSchema}
 use Rattle.table_metadata.specs.declared.snapshots.Snapshot.{Snapshot}
 use Rattle.table_metadata.specs.declared.metadata_fault.MetadataFault.{MetadataFault}
-use Rattle.table_metadata.specs.Keys.{long_at, items_at, long_of, in_int}
+use Rattle.table_metadata.specs.Keys.{items_at, in_int}
 use Rattle.table_metadata.specs.Properties.{properties_of, retries_of, least_to_merge_of}
 use Rattle.table_metadata.specs.SchemaList.{schemas_of, specs_of}
 use Rattle.table_metadata.specs.Snapshots.{snapshot_of, snapshots_from, snapshots_of, operation_of, operation_in}
 use Rattle.table_metadata.specs.TableKeys.{current_ids_of}
 use Rattle.plain_types.specs.Steps.{◌>>=◌, by_option}
-use Rattle.metadata_writer.specs.Commit.{after_snapshot, and_item, items_in, snapshot_data, needed_keys, number_keys, summary_data, with_key, with_long, long_data}
+use Rattle.metadata_writer.specs.Commit.{after_snapshot, and_item, items_in, snapshot_data, needed_keys, number_keys, summary_data, with_key}
 use Rattle.metadata_writer.specs.Fitting.{IsLong, Fits}
 use Rattle.metadata_writer.specs.Kept.{IsKept}
 use Rattle.metadata_writer.proofs.Kept.{apart, kept-after_snapshot, snapshots-after_snapshot}
@@ -38,7 +38,7 @@ unfolding current_ids_of
 same_ids d e a b c f g = rw (a, b, c, f, g) refl
 
 -- a key that the tests tell from those that a commit writes
-stays : (branch : List ℕ) (s : Snapshot) (writer : List ℕ) (now : ℤ) (d : Data) (q : List ℕ) → bytes_eq q (codes "snapshots") ≡ false → bytes_eq q (codes "last-sequence-number") ≡ false → bytes_eq q (codes "refs") ≡ false → bytes_eq q (codes "current-snapshot-id") ≡ false → bytes_eq q (codes "snapshot-log") ≡ false → bytes_eq q (codes "last-updated-ms") ≡ false → bytes_eq q (codes "dml-writer") ≡ false → get q (after_snapshot branch s writer now d) ≡ get q d
+pub stays : (branch : List ℕ) (s : Snapshot) (writer : List ℕ) (now : ℤ) (d : Data) (q : List ℕ) → bytes_eq q (codes "snapshots") ≡ false → bytes_eq q (codes "last-sequence-number") ≡ false → bytes_eq q (codes "refs") ≡ false → bytes_eq q (codes "current-snapshot-id") ≡ false → bytes_eq q (codes "snapshot-log") ≡ false → bytes_eq q (codes "last-updated-ms") ≡ false → bytes_eq q (codes "dml-writer") ≡ false → get q (after_snapshot branch s writer now d) ≡ get q d
 stays branch s writer now d q a b c e f g h = kept-after_snapshot branch s writer now d q (kept_key branch q a b c e f g h)
 
 pub schemas-after_snapshot : (branch : List ℕ) (s : Snapshot) (writer : List ℕ) (now : ℤ) (d : Data) → schemas_of (after_snapshot branch s writer now d) ≡ schemas_of d
@@ -73,7 +73,7 @@ unfolding snapshots_from
 snapshots_from-and_item earlier v no_items = refl
 snapshots_from-and_item earlier v (item d ds) = through (snapshot_of d) _ _ (then_one v) (λ s. snapshots_from-and_item (earlier ++ s ∷ []) v ds)
 
-as_i64-of_integer : (z : ℤ) → IsLong z → as_i64 (of_integer z) ≡ Some z
+pub as_i64-of_integer : (z : ℤ) → IsLong z → as_i64 (of_integer z) ≡ Some z
 as_i64-of_integer (pos n) h = rw h refl
 as_i64-of_integer (negsuc n) h = refl
 

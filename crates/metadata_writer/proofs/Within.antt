@@ -1,26 +1,24 @@
 -- Edits of a value that has no float and nests no deeper than a bound keep it so.
-use Rattle.std.proofs.Common.{◌≡◌, ◌≤◌, ◌||◌, ℕ, suc, max, ℤ, pos, negsuc, List, Bool, true, false, codes, Option, Some, None, IsSome, Ordering, Less, Equal, Greater, cond, option_and_then, refl, arith}
+use Rattle.std.proofs.Common.{◌≡◌, ◌≤◌, ◌||◌, ℕ, suc, ℤ, pos, negsuc, List, Bool, true, false, codes, Option, Some, None, IsSome, Ordering, Less, Equal, Greater, cond, option_and_then, refl, arith}
 use Rattle.std.specs.Prelude.{⊤}
 use Rattle.std.specs.Ordering.{nat_cmp, match_ordering}
 use Rattle.std.specs.Cmp.Lexicographic.{slice_cmp}
 use Rattle.serde_json.specs.Data.{Data, null, boolean, number, string, array, object, Items, no_items, item, Members, no_members, member, put, depth, items_depth, members_depth}
-use Rattle.serde_json.specs.Find.{get, get_member, as_object, as_array, of_integer}
-use Rattle.serde_json.specs.Read.{max_depth}
+use Rattle.serde_json.specs.Find.{get, get_member, as_object, as_array}
 use Rattle.serde_json.specs.Written.{has_float, items_have_float, members_have_float}
 use Rattle.table_metadata.specs.declared.snapshots.Snapshot.{Snapshot}
-use Rattle.table_metadata.specs.Keys.{items_at, members_at}
 use Rattle.plain_types.specs.Steps.{by_option}
 use Rattle.metadata_writer.specs.Commit.{with_key, with_item, with_long, items_in, object_in, and_item, long_data, after_snapshot, branch_data, log_line, snapshot_data, needed_keys, number_keys, summary_data, with_snapshot_listed, refs_after, with_branch_on, with_current, with_change, is_main}
 use Rattle.metadata_writer.specs.Writable.{IsWritable}
 use Rattle.metadata_writer.proofs.Kept.{object-with_key, object-with_item}
 
-record Within (n : ℕ) (d : Data) : Type 0 where
-  whole : has_float d ≡ false
-  nests : depth d ≤ n
+pub record Within (n : ℕ) (d : Data) : Type 0 where
+  pub whole : has_float d ≡ false
+  pub nests : depth d ≤ n
 
-record ItemsWithin (n : ℕ) (ds : Items) : Type 0 where
-  whole : items_have_float ds ≡ false
-  nests : items_depth ds ≤ n
+pub record ItemsWithin (n : ℕ) (ds : Items) : Type 0 where
+  pub whole : items_have_float ds ≡ false
+  pub nests : items_depth ds ≤ n
 
 record MembersWithin (n : ℕ) (ms : Members) : Type 0 where
   whole : members_have_float ms ≡ false
@@ -72,7 +70,7 @@ get_member-within n k no_members w = tt
 get_member-within n k (member l e ms) w =
     found_at (slice_cmp nat_cmp k l) n _ (Some e) (get_member-within n k ms (rest-within n l e ms w)) (first-within n l e ms w)
 
-and_item-within : (n : ℕ) (v : Data) (ds : Items) → Within n v → ItemsWithin n ds → ItemsWithin n (and_item v ds)
+pub and_item-within : (n : ℕ) (v : Data) (ds : Items) → Within n v → ItemsWithin n ds → ItemsWithin n (and_item v ds)
 and_item-within n v no_items w ws = let x = w.nests in record { whole = both _ _ w.whole refl; nests = omega arith }
 and_item-within n v (item d ds) w ws =
     let parts = neither (has_float d) (items_have_float ds) ws.whole in
@@ -89,19 +87,19 @@ members_of-within n ms w = let x = w.nests in record { whole = w.whole; nests = 
 object-within : (n : ℕ) (ms : Members) → MembersWithin n ms → Within (suc n) (object ms)
 object-within n ms w = let x = w.nests in record { whole = w.whole; nests = omega arith }
 
-array-within : (n : ℕ) (ds : Items) → ItemsWithin n ds → Within (suc n) (array ds)
+pub array-within : (n : ℕ) (ds : Items) → ItemsWithin n ds → Within (suc n) (array ds)
 array-within n ds w = let x = w.nests in record { whole = w.whole; nests = omega arith }
 
 items_of-within : (n : ℕ) (ds : Items) → Within (suc n) (array ds) → ItemsWithin n ds
 items_of-within n ds w = let x = w.nests in record { whole = w.whole; nests = omega arith }
 
-empty-within : (n : ℕ) → Within (suc n) (object no_members)
+pub empty-within : (n : ℕ) → Within (suc n) (object no_members)
 empty-within n = record { whole = refl; nests = omega arith }
 
-string-within : (n : ℕ) (text : List ℕ) → Within n (string text)
+pub string-within : (n : ℕ) (text : List ℕ) → Within n (string text)
 string-within n text = record { whole = refl; nests = omega arith }
 
-long-within : (n : ℕ) (z : ℤ) → Within n (long_data z)
+pub long-within : (n : ℕ) (z : ℤ) → Within n (long_data z)
 long-within n (pos m) = record { whole = refl; nests = omega arith }
 long-within n (negsuc m) = record { whole = refl; nests = omega arith }
 
@@ -113,7 +111,7 @@ get-within n k (string s) w = tt
 get-within n k (array ds) w = tt
 get-within n k (object ms) w = get_member-within n k ms (members_of-within n ms w)
 
-with_key-within : (n : ℕ) (k : List ℕ) (v d : Data) → Within n v → Within (suc n) d → Within (suc n) (with_key k v d)
+pub with_key-within : (n : ℕ) (k : List ℕ) (v d : Data) → Within n v → Within (suc n) d → Within (suc n) (with_key k v d)
 unfolding with_key
 with_key-within n k v null w ws = ws
 with_key-within n k v (boolean b) w ws = ws
@@ -122,7 +120,7 @@ with_key-within n k v (string s) w ws = ws
 with_key-within n k v (array ds) w ws = ws
 with_key-within n k v (object ms) w ws = object-within n _ (put-within n k v ms w (members_of-within n ms ws))
 
-no_items-within : (n : ℕ) → ItemsWithin n no_items
+pub no_items-within : (n : ℕ) → ItemsWithin n no_items
 no_items-within n = record { whole = refl; nests = omega arith }
 
 items-of_found : (n : ℕ) (o : Option Data) → FoundWithin (suc n) o → ItemsWithin n (by_option (option_and_then as_array o) (λ is. is) no_items)
@@ -238,7 +236,7 @@ either-object : (b : Bool) (e d : Data) → IsSome (as_object e) → IsSome (as_
 either-object true e d x y = x
 either-object false e d x y = y
 
-current-object : (branch : List ℕ) (s : Snapshot) (d : Data) → IsSome (as_object d) → IsSome (as_object (with_current branch s d))
+pub current-object : (branch : List ℕ) (s : Snapshot) (d : Data) → IsSome (as_object d) → IsSome (as_object (with_current branch s d))
 unfolding with_current
 current-object branch s d is =
     either-object (is_main branch) _ d (object-with_item (codes "snapshot-log") _ _ (object-with_key (codes "current-snapshot-id") _ d is)) is

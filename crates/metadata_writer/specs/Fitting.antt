@@ -1,8 +1,7 @@
 -- A snapshot whose numbers have the widths of their keys.
-use Rattle.std.specs.Prelude.{◌≡◌, ◌^◌, ℤ, pos, int_lt, IsTrue, Option, Some}
+use Rattle.std.specs.Prelude.{◌≡◌, ◌^◌, ℤ, pos, int_lt, IsTrue, Some}
 use Rattle.table_metadata.specs.declared.snapshots.Snapshot.{Snapshot}
 use Rattle.table_metadata.specs.Keys.{in_int}
-use Rattle.plain_types.specs.Steps.{by_option}
 
 abbrev pub IsLong : ℤ → Type 0
 IsLong n = IsTrue (int_lt n (pos (2 ^ 63)))

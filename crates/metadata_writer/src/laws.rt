@@ -1,16 +1,22 @@
 //! What a commit changes, and what it leaves. Each function says its law in its clauses, and does nothing.
-ghost use Rattle.std.specs.Prelude.{◌≡◌, ◌≢◌, ℕ, ℤ, codes, List, [], ◌∷◌, ◌++◌, Some, Ok, IsSome};
-ghost use Rattle.serde_json.specs.Data.{Data, array};
+ghost use Rattle.std.specs.Prelude.{◌≡◌, ◌≢◌, ◌≤◌, ℕ, ℤ, pos, neg_ℤ, true, false, codes, List, [], ◌∷◌, ◌++◌, Some, Ok, IsSome};
+ghost use Rattle.std.specs.Ordering.{int_eq};
+ghost use Rattle.serde_json.specs.Data.{Data, array, depth};
+ghost use Rattle.serde_json.specs.View.{view};
+ghost use Rattle.serde_json.specs.Written.{has_float};
 ghost use Rattle.serde_json.specs.Find.{get, as_object};
 ghost use Rattle.table_metadata.specs.declared.snapshots.Snapshot.{Snapshot};
+ghost use Rattle.table_metadata.specs.MissingKeys.{keys_stand};
 ghost use Rattle.table_metadata.specs.Properties.{properties_of};
 ghost use Rattle.table_metadata.specs.SchemaList.{schemas_of, specs_of};
 ghost use Rattle.table_metadata.specs.Snapshots.{snapshots_of};
-ghost use Rattle.table_metadata.specs.TableKeys.{current_ids_of};
+ghost use Rattle.table_metadata.specs.TableKeys.{current_ids_of, current_snapshot_of, plain_keys_of};
 ghost use Rattle.row_values.specs.declared.schema.TableSchema.{TableSchema};
-ghost use Rattle.metadata_writer.specs.Fitting.{Fits};
-ghost use Rattle.metadata_writer.specs.Commit.{after_snapshot, and_item, branch_data, items_in, object_in, snapshot_data};
+ghost use Rattle.metadata_writer.specs.Fitting.{Fits, IsLong};
+ghost use Rattle.metadata_writer.specs.Commit.{after_snapshot, and_item, branch_data, is_main, items_in, log_line, object_in, snapshot_data, time_after};
 ghost use Rattle.metadata_writer.specs.Kept.{IsKept};
+ghost use Rattle.metadata_writer.specs.NewTable.{first_version};
+ghost use Rattle.metadata_writer.specs.declared.new_table.NewTable.{NewTable};
 ghost use Rattle.metadata_writer.specs.Writable.{IsWritable};
 
 /// The keys that a commit doesn't write stay as they were, read or not.
@@ -45,4 +51,30 @@ pub fn the_snapshot_is_read()
 /// What is committed onto metadata that can be written can be written.
 pub fn a_commit_can_be_written()
     ensures { (branch : List ℕ) (s : Snapshot) (writer : List ℕ) (now : ℤ) (d : Data) → IsWritable d → IsWritable (after_snapshot branch s writer now d) }
+{}
+
+/// The location and the last column id are read as before, and the number and the time as they were written.
+pub fn the_number_and_the_time_are_read()
+    ensures { (branch : List ℕ) (s : Snapshot) (writer : List ℕ) (now : ℤ) (d : Data) (location : List ℕ) (old_seq old_time column : ℤ) → IsSome (as_object d) → IsLong s.seq → IsLong (time_after now d) → plain_keys_of d ≡ Ok (record { location = location; last_sequence = old_seq; last_updated_ms = old_time; last_column = column }) → plain_keys_of (after_snapshot branch s writer now d) ≡ Ok (record { location = location; last_sequence = s.seq; last_updated_ms = time_after now d; last_column = column }) }
+{}
+
+/// After a commit on `main` its snapshot is the current one, and the log has the old lines and one of it.
+pub fn the_head_of_main_is_current()
+    ensures current { (branch : List ℕ) (s : Snapshot) (writer : List ℕ) (now : ℤ) (d : Data) → is_main branch ≡ true → IsSome (as_object d) → IsLong s.id → int_eq s.id (neg_ℤ (pos 1)) ≡ false → current_snapshot_of (after_snapshot branch s writer now d) ≡ Ok (Some s.id) }
+    ensures log { (branch : List ℕ) (s : Snapshot) (writer : List ℕ) (now : ℤ) (d : Data) → is_main branch ≡ true → IsSome (as_object d) → get (codes "snapshot-log") (after_snapshot branch s writer now d) ≡ Some (array (and_item (log_line s) (items_in (codes "snapshot-log") d))) }
+{}
+
+/// A commit on another branch leaves the current snapshot.
+pub fn other_branches_leave_the_current_snapshot()
+    ensures { (branch : List ℕ) (s : Snapshot) (writer : List ℕ) (now : ℤ) (d : Data) → is_main branch ≡ false → current_snapshot_of (after_snapshot branch s writer now d) ≡ current_snapshot_of d }
+{}
+
+/// The first version of a table can be written where its parts have no float and nest less deep than a text may.
+pub fn the_first_version_can_be_written()
+    ensures { (t : NewTable) → has_float (view t.schema) ≡ false → depth (view t.schema) ≤ 125 → has_float (view t.fields) ≡ false → depth (view t.fields) ≤ 124 → has_float (view t.properties) ≡ false → depth (view t.properties) ≤ 126 → IsWritable (first_version t) }
+{}
+
+/// No needed key is absent after a commit, if none was before.
+pub fn the_needed_keys_stay()
+    ensures { (branch : List ℕ) (s : Snapshot) (writer : List ℕ) (now : ℤ) (d : Data) → IsSome (as_object d) → keys_stand d ≡ Ok tt → keys_stand (after_snapshot branch s writer now d) ≡ Ok tt }
 {}
