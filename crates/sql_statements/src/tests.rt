@@ -153,8 +153,9 @@ fn delete(alloc: Global, filter: Pred) -> Result<Statement, AllocError> {
 #[test]
 fn a_row_of_which_the_filter_is_unknown_is_not_deleted(rt: HostRuntime) -> Result<(), AllocError> {
     let statement = delete(rt.alloc(), is_number(Op::NotEqual, 1, 10))?;
-    let table = [[Some(1), None], [Some(2), Some(20)]];
-    assert!(rt; leaves(rt.alloc(), &statement, &table, &[], &[[Some(1), None]]));
+    let table = [[Some(1), Some(10)], [Some(2), None], [Some(3), Some(30)]];
+    let wanted = [table[0], table[1]];
+    assert!(rt; leaves(rt.alloc(), &statement, &table, &[], &wanted));
     Ok(())
 }
 
