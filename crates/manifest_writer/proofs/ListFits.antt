@@ -1,5 +1,5 @@
 -- The rows of a list fit its type.
-use Rattle.std.proofs.Common.{◌≡◌, ℕ, ℤ, List, [], ◌∷◌, map, pos, Bool, true, ◌&&◌, is_some, refl, sym, ap, subst, ◌∙◌, arith}
+use Rattle.std.proofs.Common.{◌≡◌, ℕ, ℤ, List, [], ◌∷◌, map, pos, Bool, true, ◌&&◌, is_some, Option, refl, sym, ap, subst, ◌∙◌, arith}
 use Rattle.std.specs.Prelude.{codes}
 use Rattle.std.specs.List.{AllByRecursion}
 use Rattle.column_bounds.specs.declared.stats.Summary.{Summary}
@@ -16,6 +16,7 @@ use Rattle.manifest_writer.specs.ListTypes.{list_types}
 use Rattle.manifest_writer.specs.ListDatum.{content_number, datum_of_summary, partitions_value, datum_of_row, IsRow}
 use Rattle.manifest_writer.specs.Value.{optional_bound}
 use Rattle.manifest_writer.proofs.Plans.{Plan, boolean_plan, int_plan, long_plan, bytes_plan, text_plan, optional_plan, items_plan, record_plan, Plans, no_plans, more_plans, type_of, fold_plan, plan_folds}
+use Rattle.manifest_writer.proofs.PlanNames.{named_is}
 use Rattle.manifest_writer.proofs.FieldLaws.{option_shape, text_fits, boolean_fits, int_fits, long_fits, some_fits, optional_int_fits, optional_long_fits, optional_bound_fits, no_field, more_fields, record_fits, array_fits}
 
 abbrev pub summary_shape : Shape
@@ -52,7 +53,7 @@ placed_is = plan_folds Placing Placing place_level place_field list_plan
 
 each_name_once : is_some (fold_plan Begins Begins once_level once_field_level list_plan []) ≡ true
 unfolding has_begun
-each_name_once = refl
+each_name_once = ap (λ (o : Option (List (List ℕ))). is_some o) (named_is list_plan [] refl)
 
 has_room : is_some (fold_plan Placing Placing place_level place_field list_plan 32 100000) ≡ true
 unfolding place_each

@@ -1,14 +1,11 @@
 -- Types that are put together from a few, and a fold over them, which computes.
 use Rattle.std.proofs.Common.{◌≡◌, ℕ, ℤ, false, List, [], ◌∷◌, map, Some, refl, sym, ap, ◌∙◌}
 use Rattle.avro_binary.specs.declared.schema.Field.{Field, fold-Field}
-use Rattle.avro_binary.specs.declared.schema.Schema.{Schema, fold-Schema, out-Schema}
+use Rattle.avro_binary.specs.declared.schema.Schema.{Schema, fold-Schema}
 use Rattle.avro_binary.specs.declared.schema.Schema.TheFolds.{fold-roll-Schema, fold_out-Field}
 use Rattle.avro_binary.specs.declared.schema.Schema.TheOpen as open_schema
 use Rattle.avro_binary.specs.declared.schema.Schema.TheVariants as schema
 use Rattle.avro_binary.specs.declared.schema.Logical.TheVariants.{Plain}
-use Rattle.avro_binary.specs.declared.datum.Datum.{Datum, out-Datum}
-use Rattle.avro_binary.specs.declared.datum.Datum.TheOpen as open_datum
-use Rattle.avro_binary.specs.declared.datum.Datum.TheVariants as datum
 use Rattle.manifest_writer.specs.Field.{field, optional_type, items_type, record_type}
 
 mutual
@@ -77,9 +74,3 @@ mutual
   plans_fold A B f g no_plans = refl
   plans_fold A B f g (more_plans id name p ps) = ap (λ (x : B). x ∷ map (fold-Field A B f g) (types_of ps)) (fold_out-Field A B f g (field id name (type_of p)) ∙ ap (λ (x : A). g (record { name = name; id = Some id; schema = x })) (plan_folds A B f g p))
       ∙ ap (λ (xs : List B). g (record { name = name; id = Some id; schema = fold_plan A B f g p }) ∷ xs) (plans_fold A B f g ps)
-
-try_one : (name : List ℕ) (fields : List Field) → out-Schema (schema.Record name fields) ≡ open_schema.Record name fields
-try_one name fields = refl
-
-try_two : (bytes : List ℕ) → out-Datum (datum.Text bytes) ≡ open_datum.Text bytes
-try_two bytes = refl
