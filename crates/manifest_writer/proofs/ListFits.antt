@@ -30,13 +30,16 @@ list_shape = record_shape (more_shapes text_shape (more_shapes (option_shape lon
 abbrev pub summary_plans : Plans
 summary_plans = more_plans (pos 509) (codes "contains_null") boolean_plan (more_plans (pos 510) (codes "lower_bound") (optional_plan bytes_plan) (more_plans (pos 511) (codes "upper_bound") (optional_plan bytes_plan) no_plans))
 
-abbrev pub list_plan : Plan
-list_plan = record_plan (codes "manifest_file")
-    (more_plans (pos 500) (codes "manifest_path") text_plan (more_plans (pos 501) (codes "manifest_length") (optional_plan long_plan) (more_plans (pos 502) (codes "partition_spec_id") int_plan (more_plans (pos 517) (codes "content") int_plan
+abbrev pub list_plans : Plans
+list_plans =
+    more_plans (pos 500) (codes "manifest_path") text_plan (more_plans (pos 501) (codes "manifest_length") (optional_plan long_plan) (more_plans (pos 502) (codes "partition_spec_id") int_plan (more_plans (pos 517) (codes "content") int_plan
     (more_plans (pos 515) (codes "sequence_number") long_plan (more_plans (pos 516) (codes "min_sequence_number") long_plan (more_plans (pos 503) (codes "added_snapshot_id") long_plan
     (more_plans (pos 504) (codes "added_files_count") (optional_plan int_plan) (more_plans (pos 505) (codes "existing_files_count") (optional_plan int_plan) (more_plans (pos 506) (codes "deleted_files_count") (optional_plan int_plan)
     (more_plans (pos 512) (codes "added_rows_count") (optional_plan long_plan) (more_plans (pos 513) (codes "existing_rows_count") (optional_plan long_plan) (more_plans (pos 514) (codes "deleted_rows_count") (optional_plan long_plan)
-    (more_plans (pos 507) (codes "partitions") (optional_plan (items_plan (pos 508) (record_plan (codes "r508") summary_plans))) no_plans))))))))))))))
+    (more_plans (pos 507) (codes "partitions") (optional_plan (items_plan (pos 508) (record_plan (codes "r508") summary_plans))) no_plans)))))))))))))
+
+abbrev pub list_plan : Plan
+list_plan = record_plan (codes "manifest_file") list_plans
 
 -- the type is the one of the plan
 list_types_is : type_of list_plan ≡ list_types

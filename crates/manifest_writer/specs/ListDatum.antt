@@ -50,7 +50,7 @@ IsRow row = HasHead row × HasCounts row
 
 -- no count is negative
 abbrev pub counts : ManifestRow → Bool
-counts row = is_count row.added_files_count && is_count row.existing_files_count && is_count row.deleted_files_count && is_count row.added_rows_count && is_count row.existing_rows_count && is_count row.deleted_rows_count
+counts row = is_count row.added_files_count && (is_count row.existing_files_count && (is_count row.deleted_files_count && (is_count row.added_rows_count && (is_count row.existing_rows_count && is_count row.deleted_rows_count))))
 
 abbrev pub has_bounds : Summary → Bool
 has_bounds summary = is_bound summary.lower && is_bound summary.upper

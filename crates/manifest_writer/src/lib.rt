@@ -7,4 +7,4 @@ mod list_datum;
 mod list_schema;
 mod value;
 
-pub use list::write_list;
+pub use list::{a_written_list_is_read_again, write_list};

@@ -9,7 +9,7 @@ use crate::list_datum::datums_of_rows;
 use crate::list_schema::list_schema;
 use avro_container::{Container, write_container};
 use manifest_files::ManifestRow;
-use plain_types::{Bytes, List};
+use plain_types::{Bytes, List as Sequence};
 use std::alloc::{AllocError, Global};
 
 /// The bytes of the list of these rows. A count that is absent is null; so is a bound that is not bytes, since a list
@@ -21,8 +21,13 @@ pub fn write_list(alloc: Global, rows: &[ManifestRow]) -> Result<Bytes, AllocErr
     let datums = datums_of_rows(alloc, rows)?;
     let container = Container {
         schema: list_schema(alloc)?,
-        meta: List::from_vec(Vec::new(alloc)),
-        datums: List::from_vec(datums),
+        meta: Sequence::from_vec(Vec::new(alloc)),
+        datums: Sequence::from_vec(datums),
     };
     write_container(alloc, &container)
 }
+
+/// Rows that are written are read again, where no count is negative and each bound is bytes.
+pub fn a_written_list_is_read_again()
+    ensures { (rows : List Row) → AllByRecursion IsRow rows → IsTrue (list_all is_listed rows) → length (list_text rows) < 2 ^ 63 → rows_of_list (list_text rows) ≡ Ok rows }
+{}
