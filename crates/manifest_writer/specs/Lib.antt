@@ -1,0 +1,4 @@
+pub mod Field
+pub mod ListDatum
+pub mod ListTypes
+pub mod Value

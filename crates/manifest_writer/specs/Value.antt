@@ -1,0 +1,40 @@
+-- A value of a field, and the range that its type has.
+use Rattle.std.specs.Prelude.{ℕ, ℤ, pos, int_le, Bool, true, List, Option, Some, None, option_map, option_and_then, is_some, ⊤}
+use Rattle.row_values.specs.declared.value.Value.{Value}
+use Rattle.row_values.specs.declared.value.Value.TheVariants as value
+use Rattle.avro_binary.specs.declared.datum.Datum.{Datum}
+use Rattle.avro_binary.specs.declared.datum.Datum.TheVariants as datum
+use Rattle.avro_binary.specs.Spelling.{IsSignedOf}
+
+-- a value of an optional field
+abbrev pub optional : Option Datum → Datum
+optional None = datum.Union 0 datum.Null
+optional (Some d) = datum.Union 1 d
+
+abbrev pub optional_int : Option ℤ → Datum
+optional_int number = optional (option_map datum.Int number)
+
+abbrev pub optional_long : Option ℤ → Datum
+optional_long number = optional (option_map datum.Long number)
+
+abbrev pub bytes_inside : Value → Option (List ℕ)
+bytes_inside (value.Bytes bytes) = Some bytes
+bytes_inside _ = None
+
+-- a bound that is bytes
+abbrev pub optional_bound : Option Value → Datum
+optional_bound bound = optional (option_map datum.Bytes (option_and_then bytes_inside bound))
+
+abbrev pub AreSignedOf : ℕ → Option ℤ → Type 0
+AreSignedOf bits None = ⊤
+AreSignedOf bits (Some number) = IsSignedOf bits number
+
+-- a count, unless there is none
+abbrev pub is_count : Option ℤ → Bool
+is_count None = true
+is_count (Some number) = int_le (pos 0) number
+
+-- a bound that is bytes, unless there is none
+abbrev pub is_bound : Option Value → Bool
+is_bound None = true
+is_bound (Some bound) = is_some (bytes_inside bound)

@@ -1,0 +1,10 @@
+//! Writes manifest lists and manifests: what is written is read again as the same rows and entries.
+#![tactic(auto)]
+
+mod field;
+mod list;
+mod list_datum;
+mod list_schema;
+mod value;
+
+pub use list::{a_written_list_is_read_again, write_list};
