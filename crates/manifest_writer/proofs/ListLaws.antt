@@ -57,7 +57,7 @@ summary_again s h =
     goes (or_fault (fault.Kind (pos 507)) (present_in (datum_of_summary s))) _ (datum_of_summary s) _ (ap (or_fault (fault.Kind (pos 507))) (record_there (summary_values s)))
     (ap (λ (values : List Datum). or_fault (fault.Kind (pos 509)) (option_and_then boolean_in (present values 0)) >>= λ contains_null. Ok (record { contains_null = contains_null; lower = Rattle.manifest_files.specs.Lists.bound_at (Some 1) values; upper = Rattle.manifest_files.specs.Lists.bound_at (Some 2) values })) (values_is (summary_values s))
     ∙ goes (or_fault (fault.Kind (pos 509)) (option_and_then boolean_in (present_in (datum.Boolean s.contains_null)))) _ s.contains_null _ (ap (or_fault (fault.Kind (pos 509))) (boolean_again s.contains_null))
-      (same_summary s _ _ (bound_again s.lower (first (is_bound s.lower) (is_bound s.upper) h)) (bound_again s.upper (second (is_bound s.lower) (is_bound s.upper) h))))
+    (same_summary s _ _ (bound_again s.lower (first (is_bound s.lower) (is_bound s.upper) h)) (bound_again s.upper (second (is_bound s.lower) (is_bound s.upper) h))))
 
 summaries_again : (earlier all : List Summary) → list_all has_bounds all ≡ true → summaries_from summaries earlier (map datum_of_summary all) ≡ Ok (earlier ++ all)
 unfolding summaries_from

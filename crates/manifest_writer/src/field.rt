@@ -31,11 +31,7 @@ pub(crate) fn optional_type(alloc: Global, schema: Schema) -> Result<Schema, All
 }
 
 /// An array whose items have the id.
-pub(crate) fn items_type(
-    alloc: Global,
-    element: i32,
-    schema: Schema,
-) -> Result<Schema, AllocError>
+pub(crate) fn items_type(alloc: Global, element: i32, schema: Schema) -> Result<Schema, AllocError>
     ensures { IfOk result (λ s. s ≡ items_type element schema) }
 {
     Ok(Schema::Array {

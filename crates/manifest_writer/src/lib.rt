@@ -1,10 +1,14 @@
 //! Writes manifest lists and manifests: what is written is read again as the same rows and entries.
 #![tactic(auto)]
 
+mod entry_datum;
+mod entry_schema;
 mod field;
 mod list;
 mod list_datum;
 mod list_schema;
+mod manifest;
 mod value;
 
 pub use list::{a_written_list_is_read_again, write_list};
+pub use manifest::write_manifest;
