@@ -8,6 +8,8 @@ mod list;
 mod list_datum;
 mod list_schema;
 mod manifest;
+#[cfg(test)]
+mod tests;
 mod value;
 
 pub use list::{a_written_list_is_read_again, write_list};
