@@ -1,5 +1,5 @@
 -- The entries of a manifest fit its type.
-use Rattle.std.proofs.Common.{◌≡◌, ℕ, ◌^◌, ◌<◌, ℤ, pos, List, [], ◌∷◌, map, Bool, true, false, nat_eq, nat_lt, Option, Some, None, refl, sym, ap, subst, ◌∙◌, arith}
+use Rattle.std.proofs.Common.{◌≡◌, ℕ, ◌^◌, ◌<◌, ℤ, pos, List, [], ◌∷◌, map, Bool, true, false, nat_eq, nat_lt, Option, Some, None, refl, sym, subst, arith}
 use Rattle.std.specs.Prelude.{◌-◌, codes, if◌then◌else◌}
 use Rattle.std.specs.List.{AllByRecursion}
 use Rattle.std.proofs.lemmas.Bool.{ltb-true}
@@ -11,9 +11,9 @@ use Rattle.manifest_files.specs.declared.entry.Content.{Content}
 use Rattle.manifest_files.specs.declared.entry.Content.TheVariants as content
 use Rattle.manifest_files.specs.declared.entry.Entry.{Entry}
 use Rattle.manifest_writer.specs.EntryTypes.{entry_types}
-use Rattle.manifest_writer.specs.EntryDatum.{status_number, content_number, own_number, id_datum, ids_value, file_values, datum_of_entry, HasFile, IsEntry}
-use Rattle.manifest_writer.specs.Value.{optional, optional_text, AreUtf8, count_number}
-use Rattle.manifest_writer.proofs.Plans.{Plan, int_plan, long_plan, text_plan, optional_plan, items_plan, record_plan, Plans, no_plans, more_plans, type_of, plan_folds}
+use Rattle.manifest_writer.specs.EntryDatum.{content_number, own_number, id_datum, ids_value, file_values, datum_of_entry, HasFile, IsEntry}
+use Rattle.manifest_writer.specs.Value.{optional_text, AreUtf8}
+use Rattle.manifest_writer.proofs.Plans.{Plan, int_plan, long_plan, text_plan, optional_plan, items_plan, record_plan, Plans, no_plans, more_plans, plan_folds}
 use Rattle.manifest_writer.proofs.FieldLaws.{option_shape, text_fits, int_fits, long_fits, none_fits, some_fits, optional_long_fits, no_field, more_fields, record_fits, array_fits}
 
 abbrev pub file_plans : Plans
