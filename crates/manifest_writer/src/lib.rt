@@ -1,4 +1,4 @@
-//! Writes manifest lists and manifests: what is written is read again as the same rows and entries.
+//! Writes manifest lists, whose rows are read again as they were, and manifests of unpartitioned tables.
 #![tactic(auto)]
 
 mod entry_datum;
