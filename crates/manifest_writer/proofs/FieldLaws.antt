@@ -1,5 +1,5 @@
 -- Values that fit the type of their field.
-use Rattle.std.proofs.Common.{◌≡◌, ℕ, ℤ, List, [], ◌∷◌, Bool, Option, Some, None, option_map, option_and_then, refl, arith}
+use Rattle.std.proofs.Common.{ℕ, ℤ, List, [], ◌∷◌, Bool, Option, Some, None, option_map, option_and_then, refl, arith}
 use Rattle.std.specs.List.{AllByRecursion}
 use Rattle.std.specs.Str.{IsUtf8}
 use Rattle.row_values.specs.declared.value.Value.{Value}

@@ -1,3 +1,4 @@
+pub mod EntryFits
 pub mod FieldLaws
 pub mod ListFits
 pub mod ListLaws

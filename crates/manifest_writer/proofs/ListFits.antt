@@ -1,5 +1,5 @@
 -- The rows of a list fit its type.
-use Rattle.std.proofs.Common.{◌≡◌, ℕ, ℤ, List, [], ◌∷◌, map, pos, Bool, true, ◌&&◌, is_some, Option, refl, sym, ap, subst, ◌∙◌, arith}
+use Rattle.std.proofs.Common.{◌≡◌, ℕ, List, [], ◌∷◌, map, pos, Bool, true, ◌&&◌, is_some, Option, refl, sym, ap, subst, ◌∙◌, arith}
 use Rattle.std.specs.Prelude.{codes}
 use Rattle.std.specs.List.{AllByRecursion}
 use Rattle.column_bounds.specs.declared.stats.Summary.{Summary}
@@ -7,14 +7,13 @@ use Rattle.avro_binary.specs.declared.datum.Datum.TheVariants as datum
 use Rattle.avro_binary.specs.SchemaOnce.{has_text, Begins, once, once_level, once_field_level}
 use Rattle.avro_binary.specs.Placed.{Placing, placed, place_each, place_level, place_field}
 use Rattle.avro_binary.specs.Naming.{has_begun}
-use Rattle.avro_binary.specs.Shape.{Shape, boolean_shape, int_shape, long_shape, bytes_shape, text_shape, record_shape, array_shape, Shapes, no_shapes, more_shapes, shape, level, field_level}
+use Rattle.avro_binary.specs.Shape.{Shape, boolean_shape, int_shape, long_shape, bytes_shape, text_shape, record_shape, array_shape, no_shapes, more_shapes, shape, level, field_level}
 use Rattle.avro_binary.specs.Spelling.{Fits, takes_bytes, items_take_bytes}
 use Rattle.manifest_files.specs.declared.manifest_row.ManifestContent.{ManifestContent}
 use Rattle.manifest_files.specs.declared.manifest_row.ManifestContent.TheVariants as content
 use Rattle.manifest_files.specs.declared.manifest_row.ManifestRow.{ManifestRow}
 use Rattle.manifest_writer.specs.ListTypes.{list_types}
 use Rattle.manifest_writer.specs.ListDatum.{content_number, datum_of_summary, partitions_value, datum_of_row, IsRow}
-use Rattle.manifest_writer.specs.Value.{optional_bound}
 use Rattle.manifest_writer.proofs.Plans.{Plan, boolean_plan, int_plan, long_plan, bytes_plan, text_plan, optional_plan, items_plan, record_plan, Plans, no_plans, more_plans, type_of, fold_plan, plan_folds}
 use Rattle.manifest_writer.proofs.PlanNames.{named_is}
 use Rattle.manifest_writer.proofs.FieldLaws.{option_shape, text_fits, boolean_fits, int_fits, long_fits, some_fits, optional_int_fits, optional_long_fits, optional_bound_fits, no_field, more_fields, record_fits, array_fits}

@@ -1,19 +1,17 @@
 -- The rows of a list that is written are read again.
-use Rattle.std.proofs.Common.{◌≡◌, ◌^◌, ◌<◌, ℕ, ℤ, pos, List, [], ◌∷◌, ◌++◌, map, length, Bool, true, false, ◌&&◌, Option, Some, None, option_map, option_and_then, Result, Ok, refl, sym, ap, subst, ◌∙◌, append_assoc}
+use Rattle.std.proofs.Common.{◌≡◌, ◌^◌, ◌<◌, ℤ, pos, List, [], ◌∷◌, ◌++◌, map, length, Bool, true, false, ◌&&◌, Option, Some, option_and_then, Result, Ok, refl, sym, ap, ◌∙◌, append_assoc}
 use Rattle.std.proofs.lemmas.List.{append-nil}
 use Rattle.std.proofs.lemmas.Str.{is_utf8-from_IsUtf8}
 use Rattle.std.specs.List.{AllByRecursion, list_all}
 use Rattle.plain_types.specs.Steps.{◌>>=◌, or_fault, fault_if, fault_as}
 use Rattle.row_values.specs.declared.value.Value.{Value}
-use Rattle.row_values.specs.declared.value.Value.TheVariants as value
 use Rattle.column_bounds.specs.declared.stats.Summary.{Summary}
 use Rattle.avro_binary.specs.declared.datum.Datum.{Datum, out-Datum}
 use Rattle.avro_binary.specs.declared.datum.Datum.TheVariants as datum
 use Rattle.avro_binary.proofs.SchemaTexts.{schema_read}
 use Rattle.avro_container.specs.declared.container.Container.{Container}
 use Rattle.avro_container.specs.Container.{container_of}
-use Rattle.avro_container.specs.ContainerText.{container_text, AreMeta}
-use Rattle.avro_container.specs.Grammar.{Lacks, Distinct}
+use Rattle.avro_container.specs.ContainerText.{AreMeta}
 use Rattle.avro_container.proofs.TextLaws.{text_read_again}
 use Rattle.avro_rows.specs.Rows.{values_of}
 use Rattle.avro_rows.specs.Sources.{fields_of}

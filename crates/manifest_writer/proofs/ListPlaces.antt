@@ -1,5 +1,5 @@
 -- Where the fields of a written list stand.
-use Rattle.std.proofs.Common.{◌≡◌, ℕ, pos, List, [], Option, Some, None, Ok, refl, sym, ap, ◌∙◌}
+use Rattle.std.proofs.Common.{◌≡◌, pos, List, [], Option, Some, None, Ok, refl, ap, ◌∙◌}
 use Rattle.std.specs.Prelude.{codes}
 use Rattle.avro_binary.specs.declared.schema.Field.{Field}
 use Rattle.avro_binary.specs.declared.schema.Schema.{Schema}
@@ -8,10 +8,10 @@ use Rattle.plain_types.specs.Steps.{by_option}
 use Rattle.manifest_files.specs.declared.field_type.FieldType.TheVariants as type
 use Rattle.manifest_files.specs.declared.places.SummaryPlaces.{SummaryPlaces}
 use Rattle.manifest_files.specs.declared.places.RowPlaces.{RowPlaces}
-use Rattle.manifest_files.specs.FieldTypes.{record_fields, element_fields}
-use Rattle.manifest_files.specs.Places.{field_from, field_at, needed, optional, optional_items, fields_of_items, summary_fields, summaries_at, summary_places, row_places}
+use Rattle.manifest_files.specs.FieldTypes.{record_fields}
+use Rattle.manifest_files.specs.Places.{field_from, needed, optional, optional_items, fields_of_items, summary_fields, summary_places, row_places}
 use Rattle.manifest_writer.specs.ListTypes.{list_types}
-use Rattle.manifest_writer.proofs.Plans.{Plan, boolean_plan, int_plan, long_plan, bytes_plan, text_plan, optional_plan, items_plan, record_plan, types_of, type_of}
+use Rattle.manifest_writer.proofs.Plans.{Plan, boolean_plan, int_plan, long_plan, bytes_plan, text_plan, optional_plan, items_plan, record_plan, types_of}
 use Rattle.manifest_writer.proofs.PlanTypes.{plan_out, items_is, fields_is, goes, needed_is, optional_is, optional_items_is}
 use Rattle.manifest_writer.proofs.ListFits.{summary_plans, list_plans, list_plan}
 

@@ -1,5 +1,5 @@
 -- The places of the fields of a type that is put together.
-use Rattle.std.proofs.Common.{◌≡◌, ℕ, ℤ, List, [], ◌∷◌, Bool, true, false, cond, Option, Some, None, Result, Ok, Err, refl, sym, ap, ◌∙◌}
+use Rattle.std.proofs.Common.{◌≡◌, ℕ, ℤ, List, [], ◌∷◌, Bool, true, false, cond, Option, Some, None, Result, Ok, Err, sym, ap, ◌∙◌}
 use Rattle.plain_types.specs.Steps.{◌>>=◌, or_fault, by_option}
 use Rattle.avro_binary.specs.declared.schema.Field.{Field}
 use Rattle.avro_binary.specs.declared.schema.Schema.{Schema, out-Schema}
@@ -12,10 +12,10 @@ use Rattle.avro_rows.specs.Sources.{fields_level, fields_of}
 use Rattle.manifest_files.specs.declared.field_type.FieldType.{FieldType}
 use Rattle.manifest_files.specs.declared.manifest_fault.ManifestFault.{ManifestFault}
 use Rattle.manifest_files.specs.declared.manifest_fault.ManifestFault.TheVariants as fault
-use Rattle.manifest_files.specs.FieldTypes.{beside_null, stated_level, stated, is_type, has_type, items_level, items_of, has_items, record_fields, element_fields}
+use Rattle.manifest_files.specs.FieldTypes.{stated_level, stated, is_type, has_type, items_level, items_of, has_items, record_fields}
 use Rattle.manifest_files.specs.Places.{field_at, typed, needed, optional, optional_items}
 use Rattle.manifest_writer.specs.Field.{field}
-use Rattle.manifest_writer.proofs.Plans.{Plan, boolean_plan, int_plan, long_plan, bytes_plan, text_plan, optional_plan, items_plan, record_plan, Plans, no_plans, more_plans, type_of, types_of}
+use Rattle.manifest_writer.proofs.Plans.{Plan, boolean_plan, int_plan, long_plan, bytes_plan, text_plan, optional_plan, items_plan, record_plan, type_of, types_of}
 
 abbrev pub out_plan : Plan → open_schema.Schema-F Schema Field
 out_plan boolean_plan = open_schema.Boolean

@@ -1,6 +1,6 @@
 -- Values of fields that are written are read again.
-use Rattle.std.proofs.Common.{◌≡◌, ℕ, ℤ, pos, negsuc, List, [], ◌∷◌, Bool, true, false, cond, Option, Some, None, option_map, option_and_then, Result, Ok, refl, sym, ap, ◌∙◌}
-use Rattle.std.specs.Prelude.{int_le, if◌then◌else◌}
+use Rattle.std.proofs.Common.{◌≡◌, ℕ, ℤ, List, Bool, true, false, Option, Some, None, option_map, option_and_then, Ok, refl, sym, ap, ◌∙◌}
+use Rattle.std.specs.Prelude.{if◌then◌else◌}
 use Rattle.std.specs.Str.{is_utf8}
 use Rattle.plain_types.specs.Steps.{or_fault}
 use Rattle.row_values.specs.declared.value.Value.{Value}
@@ -13,7 +13,7 @@ use Rattle.avro_binary.specs.declared.datum.Datum.TheViews.{out-roll-Datum}
 use Rattle.avro_rows.specs.DatumValue.{inside_level, inside, is_null_datum}
 use Rattle.avro_rows.specs.Rows.{values_level, values_of}
 use Rattle.manifest_files.specs.declared.manifest_fault.ManifestFault.{ManifestFault}
-use Rattle.manifest_files.specs.Datums.{present_in, int_level, int_in, long_level, long_in, boolean_level, boolean_in, bytes_level, bytes_in, text_level, text_in, items_level, as_text}
+use Rattle.manifest_files.specs.Datums.{present_in, int_level, int_in, long_level, long_in, boolean_level, boolean_in, bytes_level, bytes_in, text_level, text_in, as_text}
 use Rattle.manifest_files.specs.Lists.{not_negative}
 use Rattle.manifest_writer.specs.Value.{optional, optional_int, optional_long, bytes_inside, optional_bound, is_count, is_bound}
 

@@ -1,6 +1,6 @@
 -- Types of the fields of a record, each of which names its id (Iceberg specification, Appendix A, "Avro"). An optional
 -- field is a union of null and its type, in that order.
-use Rattle.std.specs.Prelude.{ℕ, ℤ, Bool, false, List, [], ◌∷◌, Some}
+use Rattle.std.specs.Prelude.{ℕ, ℤ, false, List, [], ◌∷◌, Some}
 use Rattle.avro_binary.specs.declared.schema.Field.{Field}
 use Rattle.avro_binary.specs.declared.schema.Schema.{Schema}
 use Rattle.avro_binary.specs.declared.schema.Schema.TheVariants as schema

@@ -1,3 +1,5 @@
+pub mod EntryDatum
+pub mod EntryTypes
 pub mod Field
 pub mod ListDatum
 pub mod ListTypes

@@ -2,7 +2,7 @@
 ghost use Rattle.std.specs.Prelude.{◌≡◌, IfOk, option_and_then};
 ghost use Rattle.std.specs.Str.{IsUtf8};
 ghost use Rattle.avro_binary.specs.Spelling.{IsSignedOf};
-ghost use Rattle.manifest_writer.specs.Value.{optional, optional_int, optional_long, optional_bound, bytes_inside, AreSignedOf};
+ghost use Rattle.manifest_writer.specs.Value.{optional, optional_int, optional_long, optional_bound, bytes_inside, AreSignedOf, optional_text, AreUtf8, count_number};
 
 use avro_binary::{Boxed, Datum, Octets};
 use row_values::{Text, Value};
@@ -78,5 +78,26 @@ pub(crate) fn optional_bound(alloc: Global, bound: &Option<Value>) -> Result<Dat
             value_branch(alloc, Datum::Bytes(bytes))
         }
         _ => null_branch(alloc),
+    }
+}
+
+pub(crate) fn optional_text(alloc: Global, text: &Option<Text>) -> Result<Datum, AllocError>
+    ensures same { IfOk result (λ d. d ≡ optional_text text.now) }
+    ensures range { IfOk result (λ d. AreUtf8 text.now) }
+{
+    match text {
+        Some(text) => value_branch(alloc, text_datum(alloc, text)?),
+        None => null_branch(alloc),
+    }
+}
+
+/// A count as a long; one above the greatest stands at it.
+pub(crate) fn count_number(count: u64) -> i64
+    ensures { result ≡ count_number count }
+{
+    if count < 9223372036854775808 {
+        count as i64
+    } else {
+        i64::MAX
     }
 }

@@ -1,0 +1,86 @@
+//! The type of the entries of a manifest of an unpartitioned table.
+ghost use Rattle.std.specs.Prelude.{◌≡◌, IfOk};
+ghost use Rattle.manifest_writer.specs.EntryTypes.{optional_long, ids_field, referenced_field, partition_field, number_fields, file_head_fields, file_fields, file_field, entry_types};
+
+use crate::field::{field, items_type, optional_type, record_type};
+use avro_binary::{Field, Logical, Schema};
+use std::alloc::{AllocError, Global};
+
+fn optional_long(alloc: Global, id: i32, name: &[u8]) -> Result<Field, AllocError>
+    ensures { IfOk result (λ f. f ≡ optional_long id name.now) }
+{
+    let schema = optional_type(alloc, Schema::Long(Logical::Plain))?;
+    field(alloc, id, name, schema)
+}
+
+fn ids_field(alloc: Global) -> Result<Field, AllocError>
+    ensures { IfOk result (λ f. f ≡ ids_field) }
+{
+    let ids = items_type(alloc, 136, Schema::Int(Logical::Plain))?;
+    let schema = optional_type(alloc, ids)?;
+    field(alloc, 135, b"equality_ids", schema)
+}
+
+fn referenced_field(alloc: Global) -> Result<Field, AllocError>
+    ensures { IfOk result (λ f. f ≡ referenced_field) }
+{
+    let schema = optional_type(alloc, Schema::Text)?;
+    field(alloc, 143, b"referenced_data_file", schema)
+}
+
+fn partition_field(alloc: Global) -> Result<Field, AllocError>
+    ensures { IfOk result (λ f. f ≡ partition_field) }
+{
+    let schema = record_type(alloc, b"r102", Vec::new(alloc))?;
+    field(alloc, 102, b"partition", schema)
+}
+
+fn number_fields(alloc: Global) -> Result<Vec<Field>, AllocError>
+    ensures { IfOk result (λ fields. fields.items ≡ number_fields) }
+{
+    let mut fields = Vec::new(alloc);
+    fields.push(field(alloc, 0, b"status", Schema::Int(Logical::Plain))?)?;
+    fields.push(optional_long(alloc, 1, b"snapshot_id")?)?;
+    fields.push(optional_long(alloc, 3, b"sequence_number")?)?;
+    fields.push(optional_long(alloc, 4, b"file_sequence_number")?)?;
+    Ok(fields)
+}
+
+fn file_head_fields(alloc: Global) -> Result<Vec<Field>, AllocError>
+    ensures { IfOk result (λ fields. fields.items ≡ file_head_fields) }
+{
+    let mut fields = Vec::new(alloc);
+    fields.push(field(alloc, 134, b"content", Schema::Int(Logical::Plain))?)?;
+    fields.push(field(alloc, 100, b"file_path", Schema::Text)?)?;
+    fields.push(field(alloc, 101, b"file_format", Schema::Text)?)?;
+    fields.push(partition_field(alloc)?)?;
+    Ok(fields)
+}
+
+fn file_fields(alloc: Global) -> Result<Vec<Field>, AllocError>
+    ensures { IfOk result (λ fields. fields.items ≡ file_fields) }
+{
+    let mut fields = file_head_fields(alloc)?;
+    let count = Schema::Long(Logical::Plain);
+    fields.push(field(alloc, 103, b"record_count", count)?)?;
+    let size = Schema::Long(Logical::Plain);
+    fields.push(field(alloc, 104, b"file_size_in_bytes", size)?)?;
+    fields.push(ids_field(alloc)?)?;
+    fields.push(referenced_field(alloc)?)?;
+    Ok(fields)
+}
+
+fn file_field(alloc: Global) -> Result<Field, AllocError>
+    ensures { IfOk result (λ f. f ≡ file_field) }
+{
+    let schema = record_type(alloc, b"r2", file_fields(alloc)?)?;
+    field(alloc, 2, b"data_file", schema)
+}
+
+pub(crate) fn entry_schema(alloc: Global) -> Result<Schema, AllocError>
+    ensures { IfOk result (λ s. s ≡ entry_types) }
+{
+    let mut fields = number_fields(alloc)?;
+    fields.push(file_field(alloc)?)?;
+    record_type(alloc, b"manifest_entry", fields)
+}

@@ -1,0 +1,33 @@
+//! Manifests.
+ghost use Rattle.std.specs.Prelude.{◌≡◌, [], IfOk};
+ghost use Rattle.std.specs.List.{AllByRecursion};
+ghost use Rattle.manifest_writer.specs.EntryDatum.{manifest_text, IsEntry};
+
+use crate::entry_datum::datums_of_entries;
+use crate::entry_schema::entry_schema;
+use avro_container::{Container, write_container};
+use manifest_files::Entry;
+use plain_types::{Bytes, List};
+use row_values::{Spec, TableSchema};
+use std::alloc::{AllocError, Global};
+
+/// The bytes of the manifest of these entries of an unpartitioned table, without their statistics. An added entry's
+/// sequence numbers are null, since it takes those of the manifest's row.
+pub fn write_manifest(
+    alloc: Global,
+    entries: &[Entry],
+    _spec: &Spec,
+    _schema: &TableSchema,
+) -> Result<Bytes, AllocError>
+    requires { _spec.now.fields ≡ [] }
+    ensures text { IfOk result (λ bytes. bytes ≡ manifest_text entries.now) }
+    ensures entries { IfOk result (λ bytes. AllByRecursion IsEntry entries.now) }
+{
+    let datums = datums_of_entries(alloc, entries)?;
+    let container = Container {
+        schema: entry_schema(alloc)?,
+        meta: List::from_vec(Vec::new(alloc)),
+        datums: List::from_vec(datums),
+    };
+    write_container(alloc, &container)
+}
