@@ -1,10 +1,9 @@
 -- The tables that are read so far: of format version 2, with columns of `long` and `string` in the current schema, specs
 -- without fields, every property of writes at its default, no ref but `main`, and within the limits; with data files
 -- alone.
-use Rattle.std.specs.Prelude.{ℕ, ℤ, pos, ◌^◌, Bool, true, false, not, ◌&&◌, ◌==◌, nat_eq, nat_lt, nat_le, int_lt, codes, length, if◌then◌else◌}
+use Rattle.std.specs.Prelude.{ℕ, ℤ, pos, ◌^◌, Bool, true, false, not, ◌&&◌, ◌==◌, nat_lt, nat_le, int_lt, length, if◌then◌else◌}
 use Rattle.std.specs.List.{list_all}
 use Rattle.std.specs.Ordering.{int_eq}
-use Rattle.std.specs.Cmp.Lexicographic.{pointwise}
 use Rattle.row_values.specs.declared.kind.Kind.{Kind}
 use Rattle.row_values.specs.declared.kind.Kind.TheVariants as kind
 use Rattle.row_values.specs.declared.schema.TableSchema.{TableSchema}
@@ -16,7 +15,7 @@ use Rattle.manifest_files.specs.declared.manifest_row.ManifestRow.{ManifestRow}
 use Rattle.table_metadata.specs.Metadata.{Parts}
 use Rattle.table_metadata.specs.declared.properties.Properties.{Properties}
 use Rattle.table_metadata.specs.declared.properties.WriteMode.{WriteMode}
-use Rattle.table_metadata.specs.declared.references.RefItem.{RefItem}
+use Rattle.table_metadata.specs.References.{is_main}
 
 abbrev pub is_plain_kind : Kind → Bool
 is_plain_kind kind.Long = true
@@ -39,9 +38,6 @@ is_plain_mode mode = not mode.on_read && not mode.snapshot_level
 
 abbrev pub is_plain_writing : Properties → Bool
 is_plain_writing p = is_plain_mode p.delete && is_plain_mode p.update && is_plain_mode p.merge && p.retries == 4 && p.least_to_merge == 100 && p.merge_enabled
-
-abbrev pub is_main : RefItem → Bool
-is_main ref = pointwise nat_eq ref.name (codes "main")
 
 -- the version, its sequence number and the length of its location
 abbrev pub is_within_limits : ℕ → Parts → Bool

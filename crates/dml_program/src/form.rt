@@ -3,7 +3,8 @@ ghost use Rattle.std.specs.Prelude.{◌≡◌};
 ghost use Rattle.std.specs.List.{list_all};
 ghost use Rattle.table_metadata.specs.Metadata.{parts};
 ghost use Rattle.table_state.specs.Live.{is_data, is_data_content};
-ghost use Rattle.dml_program.specs.Form.{has_form, is_data_manifest, is_data_manifest_content, is_main, is_plain_column, is_plain_kind, is_plain_mode, is_plain_schema, is_plain_writing, is_unpartitioned, is_within_limits};
+ghost use Rattle.table_metadata.specs.References.{is_main};
+ghost use Rattle.dml_program.specs.Form.{has_form, is_data_manifest, is_data_manifest_content, is_plain_column, is_plain_kind, is_plain_mode, is_plain_schema, is_plain_writing, is_unpartitioned, is_within_limits};
 
 use manifest_files::{Content, Entry, ManifestContent, ManifestRow};
 use row_values::{Column, Kind, Spec, TableSchema};

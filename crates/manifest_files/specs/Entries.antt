@@ -45,6 +45,7 @@ status_of n = if int_eq n (pos 0) then Ok 0 else if int_eq n (pos 1) then Ok 1 e
 abbrev pub status_at : ℕ → List Datum → Result ℕ ManifestFault
 status_at place values = or_fault (fault.Kind (pos 0)) (option_and_then int_in (present values place)) >>= status_of
 
+-- existing or added
 abbrev pub is_live : ℕ → Bool
 is_live status = nat_lt status 2
 

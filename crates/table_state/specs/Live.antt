@@ -1,5 +1,5 @@
 -- The files that are live in a branch, and its rows (Iceberg specification, "Snapshots", "Manifest Lists" and "Manifests").
-use Rattle.std.specs.Prelude.{ℕ, nat_eq, nat_lt, ℤ, Bool, true, false, not, ◌&&◌, codes, List, [], ◌∷◌, ◌++◌, filter, Option, Some, None, Result, Ok, if◌then◌else◌}
+use Rattle.std.specs.Prelude.{ℕ, nat_eq, ℤ, Bool, true, false, not, ◌&&◌, codes, List, [], ◌∷◌, ◌++◌, filter, Option, Some, None, Result, Ok, if◌then◌else◌}
 use Rattle.std.specs.Cmp.Lexicographic.{pointwise}
 use Rattle.std.specs.Ordering.{int_eq}
 use Rattle.plain_types.specs.Steps.{◌>>=◌, or_fault, by_option}
@@ -9,6 +9,7 @@ use Rattle.manifest_files.specs.declared.entry.Content.{Content}
 use Rattle.manifest_files.specs.declared.entry.Content.TheVariants as content
 use Rattle.manifest_files.specs.declared.entry.Entry.{Entry}
 use Rattle.manifest_files.specs.declared.manifest_row.ManifestRow.{ManifestRow}
+use Rattle.manifest_files.specs.Entries as statuses
 use Rattle.table_metadata.specs.Metadata.{Parts}
 use Rattle.table_metadata.specs.declared.metadata_fault.MetadataFault.TheVariants as metadata
 use Rattle.table_metadata.specs.declared.references.RefItem.{RefItem}
@@ -22,9 +23,8 @@ use Rattle.table_state.specs.Files.{version_at, list_at, manifest_at, data_file_
 
 -- ---- the live set
 
--- existing or added
 abbrev pub is_live : Entry → Bool
-is_live entry = nat_lt entry.status 2
+is_live entry = statuses.is_live entry.status
 
 abbrev pub is_data_content : Content → Bool
 is_data_content content.Data = true
