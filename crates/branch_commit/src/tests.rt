@@ -38,7 +38,7 @@ fn store_of(alloc: Global, case: &Case) -> Result<MemoryStore, AllocError> {
     Ok(MemoryStore::failing(files, plan))
 }
 
-fn case(
+fn swap_case(
     label: &'static str,
     held: Option<&'static [u8]>,
     leave: Option<Leave>,
@@ -62,24 +62,24 @@ fn a_failed_swap_is_settled_by_reading_its_name(rt: HostRuntime) -> Result<(), F
     let whole = Some(Leave::Whole);
     let nothing = Some(Leave::Nothing);
     for case in [
-        case("a new name", None, None, false, won),
-        case("a name that is there", Some(b"x"), None, false, lost),
-        case("it failed and left the file", None, whole, false, won),
-        case(
+        swap_case("a new name", None, None, false, won),
+        swap_case("a name that is there", Some(b"x"), None, false, lost),
+        swap_case("it failed and left the file", None, whole, false, won),
+        swap_case(
             "it failed on a name that is there",
             Some(b"x"),
             whole,
             false,
             lost,
         ),
-        case(
+        swap_case(
             "it failed and left nothing",
             None,
             nothing,
             false,
             Err(SwapFault::Store),
         ),
-        case(
+        swap_case(
             "both calls failed",
             None,
             whole,

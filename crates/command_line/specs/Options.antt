@@ -15,3 +15,7 @@ needed name = record (new_rule name) { long = Some name; action = Some Set; requ
 -- rows --table T
 unfoldable pub rows_app : App
 rows_app = with_rule (plain_app (codes "rows")) (needed (codes "table"))
+
+-- create --table T --schema F
+unfoldable pub create_app : App
+create_app = with_rule (with_rule (plain_app (codes "create")) (needed (codes "table"))) (needed (codes "schema"))

@@ -2,12 +2,12 @@
 use Rattle.std.specs.Prelude.{ℕ, Bool, ◌&&◌, ◌==◌, nat_eq, nat_le, codes, List, [], ◌∷◌, length, Option, Some, None, option_map, option_and_then, map, if◌then◌else◌}
 use Rattle.std.specs.Borrow.{Bor}
 use Rattle.command_line.specs.declared.words.Command.{Command}
-use Rattle.command_line.specs.declared.words.Command.TheVariants.{Rows}
+use Rattle.command_line.specs.declared.words.Command.TheVariants.{Rows, Create}
 use Rattle.std.specs.Cmp.Lexicographic.{pointwise}
 use Rattle.clap.specs.Words.{App, fault_of, matches_of}
 use Rattle.clap.specs.Walk.{first_of}
 use Rattle.plain_types.specs.Paths.{is_path}
-use Rattle.command_line.specs.Options.{rows_app}
+use Rattle.command_line.specs.Options.{rows_app, create_app}
 
 -- what the words say
 abbrev pub texts : List (Bor (List ℕ)) → List (List ℕ)
@@ -16,9 +16,11 @@ texts words = map (λ word. word.now) words
 -- a command with its options
 pub data Wanted : Type 0 where
   rows : List ℕ → Wanted
+  create : List ℕ → List ℕ → Wanted
 
 abbrev pub wanted : Command → Wanted
 wanted (Rows table) = rows table.now
+wanted (Create table schema) = create table.now schema.now
 
 -- the name of a table's folder, which is a path below the working folder of at most 4,096 bytes
 abbrev pub is_table : List ℕ → Bool
@@ -28,10 +30,20 @@ is_table name = nat_le (length name) 4096 && is_path name
 abbrev pub option_of : App → List ℕ → List (List ℕ) → Option (List ℕ)
 option_of app name words = if length (fault_of app words) == 0 then first_of name (matches_of app words) else None
 
+-- a table, where the value of its option is in form
+abbrev pub table_named : Option (List ℕ) → Option (List ℕ)
+table_named value = option_and_then (λ table. if is_table table then Some table else None) value
+
 abbrev pub table_of : App → List (List ℕ) → Option (List ℕ)
-table_of app words = option_and_then (λ table. if is_table table then Some table else None) (option_of app (codes "table") words)
+table_of app words = table_named (option_of app (codes "table") words)
+
+abbrev pub rows_of : List (List ℕ) → Option Wanted
+rows_of words = option_map rows (table_of rows_app words)
+
+abbrev pub create_of : List (List ℕ) → Option Wanted
+create_of words = option_and_then (λ table. option_map (create table) (option_of create_app (codes "schema") words)) (table_of create_app words)
 
 -- The first word is the command, and the others are its options.
 unfoldable pub command_of : List (List ℕ) → Option Wanted
 command_of [] = None
-command_of (name ∷ options) = if pointwise nat_eq name (codes "rows") then option_map rows (table_of rows_app (name ∷ options)) else None
+command_of (name ∷ options) = if pointwise nat_eq name (codes "rows") then rows_of (name ∷ options) else (if pointwise nat_eq name (codes "create") then create_of (name ∷ options) else None)

@@ -1,12 +1,12 @@
 // The options of a command, read by clap.
-ghost use Rattle.std.specs.Prelude.{◌≡◌, true, false, None, Some, IfOk, IsErrOf};
-ghost use Rattle.clap.specs.Words.{app_of, is_simple_and_free, rule_of, with_rule};
-ghost use Rattle.command_line.specs.Options.{plain_app, needed, rows_app};
+ghost use Rattle.std.specs.Prelude.{◌≡◌, ℕ, List, true, false, None, Some, IfOk, IsErrOf};
+ghost use Rattle.clap.specs.Words.{app_of, first_value, found_of, is_simple_and_free, rule_of, with_rule};
+ghost use Rattle.command_line.specs.Options.{plain_app, needed, rows_app, create_app};
 ghost use Rattle.command_line.specs.Words.{texts, option_of};
 
 use crate::WordsFault;
 use clap::error::ErrorKind;
-use clap::{Arg, ArgAction, Command};
+use clap::{Arg, ArgAction, ArgMatches, Command};
 use std::alloc::{AllocError, Global};
 
 /// The command `rows`.
@@ -31,25 +31,41 @@ fn with_needed<'a>(
     }
 }
 
-/// The value of an option that the command needs.
-pub(crate) fn value_of<'a>(
+/// The command `create`.
+#[tactic(auto, unfolding(crate::specs::Options::create_app))]
+pub(crate) fn create_command<'a>(alloc: Global) -> Result<Command<'a>, AllocError>
+    ensures { IfOk result (λ command. app_of command ≡ create_app) }
+{
+    let command = with_needed(alloc, plain_command(alloc, "create"), "table")?;
+    with_needed(alloc, command, "schema")
+}
+
+/// The options that the words give to a command.
+pub(crate) fn options_of<'a>(
     command: Command<'a>,
     words: &'a [&'a str],
-    name: &str,
-) -> Result<&'a str, WordsFault>
+) -> Result<ArgMatches<'a>, WordsFault>
     requires { is_simple_and_free (app_of command) ≡ true }
-    ensures found { IfOk result (λ value. option_of (app_of command.entry) name.now (texts words.entry.now) ≡ Some value.now) }
-    ensures usage { IsErrOf result WordsFault.Usage → option_of (app_of command.entry) name.now (texts words.entry.now) ≡ None }
+    ensures found { IfOk result (λ options. (name : List ℕ) → option_of (app_of command.entry) name (texts words.entry.now) ≡ first_value (found_of options) name) }
+    ensures usage { IsErrOf result WordsFault.Usage → (name : List ℕ) → option_of (app_of command.entry) name (texts words.entry.now) ≡ None }
 {
     match command.try_get_matches_from(words) {
-        Ok(matches) => match matches.get_str(name) {
-            Some(value) => Ok(value),
-            None => Err(WordsFault::Usage),
-        },
+        Ok(options) => Ok(options),
         Err(error) => match error.kind() {
             ErrorKind::OutOfMemory => Err(WordsFault::Memory),
             _ => Err(WordsFault::Usage),
         },
+    }
+}
+
+/// The value of an option that the command needs.
+pub(crate) fn value_of<'a>(options: &ArgMatches<'a>, name: &str) -> Result<&'a str, WordsFault>
+    ensures found { IfOk result (λ value. first_value (found_of options.now) name.now ≡ Some value.now) }
+    ensures usage { IsErrOf result WordsFault.Usage → first_value (found_of options.now) name.now ≡ None }
+{
+    match options.get_str(name) {
+        Some(value) => Ok(value),
+        None => Err(WordsFault::Usage),
     }
 }
 

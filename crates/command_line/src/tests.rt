@@ -10,8 +10,23 @@ fn words_that_are_in_the_form_of_rows_name_a_table(rt: HostRuntime) -> Result<()
     for (words, table) in good.iter().zip(wanted.iter()) {
         match read_words(alloc, words) {
             Ok(Command::Rows { table: named }) => assert_eq!(rt; named, *table),
-            Err(_) => panic!(rt; "refused: {words:?}"),
+            _ => panic!(rt; "refused: {words:?}"),
         }
+    }
+    Ok(())
+}
+
+#[test]
+fn words_that_are_in_the_form_of_create_name_a_table_and_a_schema(
+    rt: HostRuntime,
+) -> Result<(), Fail> {
+    let words = ["create", "--schema=../s.json", "--table", "a"];
+    match read_words(rt.alloc(), &words) {
+        Ok(Command::Create { table, schema }) => {
+            assert_eq!(rt; table, "a");
+            assert_eq!(rt; schema, "../s.json");
+        }
+        _ => panic!(rt; "refused"),
     }
     Ok(())
 }
@@ -19,10 +34,13 @@ fn words_that_are_in_the_form_of_rows_name_a_table(rt: HostRuntime) -> Result<()
 #[test]
 fn other_words_are_no_command(rt: HostRuntime) {
     let alloc = rt.alloc();
-    let bad: [&[&str]; 14] = [
+    let bad: [&[&str]; 17] = [
         &[],
         &["run", "--table", "a"],
         &["rows"],
+        &["create", "--table", "a"],
+        &["create", "--table", "a/", "--schema", "s"],
+        &["create", "--schema", "s"],
         &["rows", "--table"],
         &["rows", "--table", "a", "--table", "b"],
         &["rows", "--table", "a", "b"],

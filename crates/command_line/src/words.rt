@@ -1,9 +1,9 @@
-ghost use Rattle.std.specs.Prelude.{◌≡◌, true, Some, None, IfOk, IsErrOf, option_map};
-ghost use Rattle.clap.specs.Words.{app_of, is_simple_and_free};
-ghost use Rattle.command_line.specs.Options.{rows_app};
-ghost use Rattle.command_line.specs.Words.{command_of, is_table, rows, table_of, texts, wanted};
+ghost use Rattle.std.specs.Prelude.{◌≡◌, Some, None, IfOk, IsErrOf, codes};
+ghost use Rattle.clap.specs.Words.{first_value, found_of};
+ghost use Rattle.command_line.specs.Words.{command_of, create_of, is_table, rows_of, table_named, texts, wanted};
 
-use crate::options::{rows_command, value_of};
+use crate::options::{create_command, options_of, rows_command, value_of};
+use clap::ArgMatches;
 use plain_types::is_path;
 use std::alloc::{AllocError, Global};
 
@@ -12,6 +12,8 @@ use std::alloc::{AllocError, Global};
 pub enum Command<'a> {
     /// `rows --table T` prints the rows of a table.
     Rows { table: &'a str },
+    /// `create --table T --schema F` makes a table by a schema file.
+    Create { table: &'a str, schema: &'a str },
 }
 
 /// Why the words ask for nothing.
@@ -45,30 +47,47 @@ pub fn read_words<'a>(alloc: Global, words: &'a [&'a str]) -> Result<Command<'a>
     let [name, ..] = words else {
         return Err(WordsFault::Usage);
     };
-    if *name != "rows" {
-        return Err(WordsFault::Usage);
+    if *name == "rows" {
+        return read_rows(alloc, words);
     }
-    read_rows(alloc, words)
+    if *name == "create" {
+        return read_create(alloc, words);
+    }
+    Err(WordsFault::Usage)
 }
 
 fn read_rows<'a>(alloc: Global, words: &'a [&'a str]) -> Result<Command<'a>, WordsFault>
-    ensures found { IfOk result (λ command. option_map rows (table_of rows_app (texts words.entry.now)) ≡ Some (wanted command)) }
-    ensures usage { IsErrOf result WordsFault.Usage → option_map rows (table_of rows_app (texts words.entry.now)) ≡ None }
+    ensures found { IfOk result (λ command. rows_of (texts words.entry.now) ≡ Some (wanted command)) }
+    ensures usage { IsErrOf result WordsFault.Usage → rows_of (texts words.entry.now) ≡ None }
 {
-    let command = rows_command(alloc)?;
-    match read_table(command, words) {
+    let options = options_of(rows_command(alloc)?, words)?;
+    match table_of(&options) {
         Ok(table) => Ok(Command::Rows { table }),
         Err(fault) => Err(fault),
     }
 }
 
-// The table that the words name.
-fn read_table<'a>(command: clap::Command<'a>, words: &'a [&'a str]) -> Result<&'a str, WordsFault>
-    requires { is_simple_and_free (app_of command) ≡ true }
-    ensures found { IfOk result (λ table. table_of (app_of command.entry) (texts words.entry.now) ≡ Some table.now) }
-    ensures usage { IsErrOf result WordsFault.Usage → table_of (app_of command.entry) (texts words.entry.now) ≡ None }
+fn read_create<'a>(alloc: Global, words: &'a [&'a str]) -> Result<Command<'a>, WordsFault>
+    ensures found { IfOk result (λ command. create_of (texts words.entry.now) ≡ Some (wanted command)) }
+    ensures usage { IsErrOf result WordsFault.Usage → create_of (texts words.entry.now) ≡ None }
 {
-    match value_of(command, words, "table") {
+    let options = options_of(create_command(alloc)?, words)?;
+    let table = match table_of(&options) {
+        Ok(table) => table,
+        Err(fault) => return Err(fault),
+    };
+    match value_of(&options, "schema") {
+        Ok(schema) => Ok(Command::Create { table, schema }),
+        Err(fault) => Err(fault),
+    }
+}
+
+// The table that the options name.
+fn table_of<'a>(options: &ArgMatches<'a>) -> Result<&'a str, WordsFault>
+    ensures found { IfOk result (λ table. table_named (first_value (found_of options.now) (codes "table")) ≡ Some table.now) }
+    ensures usage { IsErrOf result WordsFault.Usage → table_named (first_value (found_of options.now) (codes "table")) ≡ None }
+{
+    match value_of(options, "table") {
         Ok(table) if is_table(table) => Ok(table),
         Ok(_) => Err(WordsFault::Usage),
         Err(fault) => Err(fault),
