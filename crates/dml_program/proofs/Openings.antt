@@ -3,7 +3,7 @@ use Rattle.std.proofs.Common.{◌≡◌, ℕ, List, Option, Some, Result, Ok, Er
 use Rattle.std.specs.Option.{ForSome}
 use Rattle.plain_types.specs.Steps.{by_option, fault_as}
 use Rattle.store_core.specs.Files.{Files}
-use Rattle.table_state.specs.Versions.{version_of}
+use Rattle.table_names.specs.Versions.{version_of}
 use Rattle.dml_program.specs.declared.status.TableKind.TheVariants.{NoVersion, Later}
 use Rattle.dml_program.specs.declared.status.Status.{Status}
 use Rattle.dml_program.specs.declared.status.Status.TheVariants as status

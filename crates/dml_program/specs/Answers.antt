@@ -1,70 +1,94 @@
--- What a call of the program answers: the answer that is wanted, how the status carries it, and the lines that it prints.
-use Rattle.std.specs.Prelude.{◌≡◌, ◌⊎◌, ℕ, List, [], Option, Result, Ok, Err}
+-- What a call of the program answers: the answer that is wanted, how the status carries it, the lines that it prints and
+-- the files that it leaves.
+use Rattle.std.specs.Prelude.{◌≡◌, ◌⊎◌, ℕ, ℤ, List, [], Option, Some, Result, Ok, Err}
+use Rattle.std.specs.Option.{ForSome}
 use Rattle.plain_types.specs.Causes.{Rose}
 use Rattle.plain_types.specs.Steps.{by_option}
 use Rattle.row_values.specs.declared.value.Value.{Value}
-use Rattle.store_core.specs.Files.{Files}
+use Rattle.store_core.specs.Files.{Files, with_file}
 use Rattle.store_core.specs.Written.{appended, TakesFront}
-use Rattle.command_line.specs.Words.{Wanted, rows, command_of}
+use Rattle.command_line.specs.Words.{Wanted, rows, create, command_of}
+use Rattle.table_names.specs.Versions.{version_name}
 use Rattle.value_texts.specs.Records.{records_of}
-use Rattle.dml_program.specs.declared.status.TableKind.{TableKind}
 use Rattle.dml_program.specs.declared.status.Status.{Status}
 use Rattle.dml_program.specs.declared.status.Status.TheVariants as status
+use Rattle.dml_program.specs.Creating.{first_version_of}
 use Rattle.dml_program.specs.Opening.{Fault, table_rows}
-use Rattle.dml_program.specs.Statuses.{fault_lines, row_lines}
+use Rattle.dml_program.specs.Statuses.{created_lines, fault_lines, row_lines}
 
+-- the lines that are printed and the files that are left, or the status of what is wrong
 pub data Answer : Type 0 where
-  done : List (List Value) → Answer
-  usage : Answer
-  bad : TableKind → List ℕ → Answer
+  done : List ℕ → Files → Answer
+  refused : Status → Answer
 
 -- the rows that are printed, or what is wrong with the table
-abbrev pub answer_by : Result (List (List Value)) Fault → Answer
-answer_by (Ok found) = done found
-answer_by (Err fault) = bad fault.0 fault.1
+abbrev pub rows_answer : Files → Result (List (List Value)) Fault → Answer
+rows_answer files (Ok found) = done (row_lines (records_of found)) files
+rows_answer files (Err fault) = refused (status.TableBad fault.0 fault.1)
 
--- the answer that a command wants over the files of a store
-abbrev pub wanted_answer : Files → Wanted → Answer
-wanted_answer files (rows table) = answer_by (table_rows table files)
+-- the table that is made, or why not
+abbrev pub create_answer : List ℕ → Files → Result (List ℕ) Status → Answer
+create_answer table files (Ok bytes) = done created_lines (with_file (version_name table 1) bytes files)
+create_answer table files (Err refusal) = refused refusal
 
-abbrev pub answer_of : List (List ℕ) → Files → Answer
-answer_of words files = by_option (command_of words) (wanted_answer files) usage
+-- the answer that a command wants over the files of a store, the contents of the inputs and the time
+abbrev pub wanted_answer : Files → Files → ℤ → Wanted → Answer
+wanted_answer files given now (rows table) = rows_answer files (table_rows table files)
+wanted_answer files given now (create table schema) = create_answer table files (first_version_of table schema files given now)
+
+abbrev pub answer_of : List (List ℕ) → Files → Files → ℤ → Answer
+answer_of words files given now = by_option (command_of words) (wanted_answer files given now) (refused status.Usage)
+
+-- where the store, the inputs and the clock tell
+abbrev pub Told : Option Files → Option Files → Option ℤ → (Files → Files → ℤ → Type 0) → Type 0
+Told files given now holds = ForSome files (λ f. ForSome given (λ g. ForSome now (λ n. holds f g n)))
 
 abbrev pub IsDone : Answer → Type 0
-IsDone (done found) = Unit {0}
-IsDone usage = ⊥
-IsDone (bad kind path) = ⊥
+IsDone (done lines left) = Unit {0}
+IsDone (refused refusal) = ⊥
 
--- The status is the wanted answer, or says that the store, the output or memory failed. The output fails only once
--- everything else is done.
+-- The status is the wanted answer, or says that the store, an input, the output or memory failed. The output fails only
+-- once everything else is done.
 abbrev pub Carries : Answer → Status → Type 0
 Carries answer status.Done = IsDone answer
-Carries answer status.Usage = answer ≡ usage
-Carries answer (status.TableBad kind path) = answer ≡ bad kind path
+Carries answer status.Usage = answer ≡ refused status.Usage
+Carries answer (status.ScriptBad line kind) = answer ≡ refused (status.ScriptBad line kind)
+Carries answer (status.TableBad kind path) = answer ≡ refused (status.TableBad kind path)
 Carries answer status.StoreFailed = Unit {0}
+Carries answer (status.InputFailed name) = Unit {0}
 Carries answer status.OutputFailed = IsDone answer
+Carries answer (status.StateUnknown session number) = Unit {0}
 Carries answer status.Memory = Unit {0}
 
 -- the status that an answer is
-abbrev pub IsStatus : Answer → Status → Type 0
-IsStatus (done found) s = s ≡ status.Done
-IsStatus usage s = s ≡ status.Usage
-IsStatus (bad kind path) s = s ≡ status.TableBad kind path
+abbrev pub status_of : Answer → Status
+status_of (done lines left) = status.Done
+status_of (refused refusal) = refusal
 
--- the lines of the rows that an answer has
+-- the lines that an answer prints
 abbrev pub answer_lines : Answer → List ℕ
-answer_lines (done found) = row_lines (records_of found)
-answer_lines usage = []
-answer_lines (bad kind path) = []
+answer_lines (done lines left) = lines
+answer_lines (refused refusal) = []
 
 -- the whole report of a call that ends with a status
 abbrev pub report_lines : Answer → Status → List ℕ
 report_lines answer status.Done = answer_lines answer
 report_lines answer status.OutputFailed = answer_lines answer
-report_lines answer status.Usage = fault_lines status.Usage
-report_lines answer (status.TableBad kind path) = fault_lines (status.TableBad kind path)
-report_lines answer status.StoreFailed = fault_lines status.StoreFailed
-report_lines answer status.Memory = []
+report_lines answer other = fault_lines other
+
+-- the files that are left where the answer is carried out
+abbrev pub files_left : Files → Answer → Files
+files_left files (done lines left) = left
+files_left files (refused refusal) = files
+
+-- The files that a call leaves: those of its answer where it was carried out, those that were there where it was not, and
+-- one of the two where that is not known.
+abbrev pub Leaves : Answer → Status → Files → Option Files → Type 0
+Leaves answer status.Done files new = new ≡ Some (files_left files answer)
+Leaves answer status.OutputFailed files new = new ≡ Some (files_left files answer)
+Leaves answer (status.StateUnknown session number) files new = (new ≡ Some files) ⊎ (new ≡ Some (files_left files answer))
+Leaves answer status.Memory files new = (new ≡ Some files) ⊎ (new ≡ Some (files_left files answer))
+Leaves answer other files new = new ≡ Some files
 
 -- the lines were written whole, or a front of them by a sink that failed
 abbrev pub Writes : List ℕ → Option (List ℕ) → Option (List ℕ) → ℕ → ℕ → Type 0
@@ -72,17 +96,18 @@ Writes lines old new before now = (new ≡ appended lines old) ⊎ (TakesFront l
 
 -- ---- before the report is written
 
--- these are the lines of the rows
+-- the status of a call that has not ended yet
+abbrev pub so_far : {T : Type 0} → Result T Status → Status
+so_far (Ok lines) = status.Done
+so_far (Err refusal) = refusal
+
+-- these are the lines that the answer prints
 abbrev pub Prints : Answer → List ℕ → Type 0
-Prints (done found) lines = lines ≡ row_lines (records_of found)
-Prints usage lines = ⊥
-Prints (bad kind path) lines = ⊥
+Prints (done lines left) printed = printed ≡ lines
+Prints (refused refusal) printed = ⊥
 
 -- a status other than those of a command that is carried out
 abbrev pub IsRefused : Status → Type 0
 IsRefused status.Done = ⊥
-IsRefused status.Usage = Unit {0}
-IsRefused (status.TableBad kind path) = Unit {0}
-IsRefused status.StoreFailed = Unit {0}
 IsRefused status.OutputFailed = ⊥
-IsRefused status.Memory = Unit {0}
+IsRefused other = Unit {0}

@@ -1,5 +1,7 @@
-pub mod Form
-pub mod PlainTable
-pub mod Opening
-pub mod Statuses
 pub mod Answers
+pub mod Causes
+pub mod Creating
+pub mod Form
+pub mod Opening
+pub mod PlainTable
+pub mod Statuses

@@ -3,7 +3,7 @@ use Rattle.std.specs.Prelude.{◌≡◌, ℕ, List, Result, Err}
 use Rattle.plain_types.specs.Steps.{by_option, fault_as}
 use Rattle.row_values.specs.declared.value.Value.{Value}
 use Rattle.store_core.specs.Files.{Files}
-use Rattle.table_state.specs.Versions.{version_of}
+use Rattle.table_names.specs.Versions.{version_of}
 use Rattle.table_state.specs.declared.load_fault.LoadFault.{LoadFault}
 use Rattle.table_state.specs.declared.load_fault.LoadFault.TheVariants as load
 use Rattle.dml_program.specs.declared.status.TableKind.{TableKind}
@@ -26,27 +26,21 @@ abbrev pub Refuses : {A : Type 0} → Result A (List ℕ) → Status → Type 0
 Refuses wanted (status.TableBad kind path) = (kind ≡ Later) × (wanted ≡ Err path)
 Refuses wanted status.StoreFailed = Unit {0}
 Refuses wanted status.Memory = Unit {0}
-Refuses wanted status.Done = ⊥
-Refuses wanted status.Usage = ⊥
-Refuses wanted status.OutputFailed = ⊥
+Refuses wanted _ = ⊥
 
 -- the same of a call that opens the table too
 abbrev pub RefusesTable : {A : Type 0} → Result A Fault → Status → Type 0
 RefusesTable wanted (status.TableBad kind path) = wanted ≡ Err (kind, path)
 RefusesTable wanted status.StoreFailed = Unit {0}
 RefusesTable wanted status.Memory = Unit {0}
-RefusesTable wanted status.Done = ⊥
-RefusesTable wanted status.Usage = ⊥
-RefusesTable wanted status.OutputFailed = ⊥
+RefusesTable wanted _ = ⊥
 
 -- a status of a call that stopped before its end
 abbrev pub IsRefusal : Status → Type 0
-IsRefusal status.Done = ⊥
-IsRefusal status.Usage = ⊥
 IsRefusal (status.TableBad kind path) = Unit {0}
 IsRefusal status.StoreFailed = Unit {0}
-IsRefusal status.OutputFailed = ⊥
 IsRefusal status.Memory = Unit {0}
+IsRefusal _ = ⊥
 
 -- the status of a call that could not read the file with this path
 abbrev pub load_status : List ℕ → LoadFault → Status

@@ -50,7 +50,8 @@ fn is_plain_schema(current: i32, schema: &TableSchema) -> bool
     schema.id != current || are_plain_columns(schema.columns.as_slice())
 }
 
-fn are_plain_columns(columns: &[Column]) -> bool
+/// Whether all the columns are of a kind that is read so far.
+pub(crate) fn are_plain_columns(columns: &[Column]) -> bool
     ensures { result ≡ list_all is_plain_column columns.now }
 {
     columns.iter().all(|column| is_plain_kind(column.kind))
@@ -68,7 +69,8 @@ fn are_unpartitioned(specs: &[Spec]) -> bool
     specs.iter().all(|spec| spec.fields.len() == 0)
 }
 
-fn is_plain_writing(properties: &Properties) -> bool
+/// Whether every property of writes is at its default.
+pub(crate) fn is_plain_writing(properties: &Properties) -> bool
     ensures { result ≡ is_plain_writing properties.now }
 {
     is_plain_mode(&properties.delete)

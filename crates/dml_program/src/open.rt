@@ -20,9 +20,9 @@ use row_values::Row;
 use std::alloc::Global;
 use store_core::{Blob, ReadAnswer, Store};
 use table_metadata::{Metadata, MetadataFault, Snapshot, read_metadata};
+use table_names::{current_version, version_name};
 use table_state::{
-    LoadFault, current_version, head_of, read_data_file_at, read_list_at, read_manifest_at,
-    snapshot_with, version_name,
+    LoadFault, head_of, read_data_file_at, read_list_at, read_manifest_at, snapshot_with,
 };
 
 // The status of a call that could not read the file with this path.

@@ -10,7 +10,22 @@ use store_core::StoreFault;
 pub enum TableKind {
     /// It has no version. The path is the table's.
     NoVersion,
+    /// It has a version already. The path is the table's.
+    Exists,
     /// A file is missing or not of a form that is read yet. The path is the file's.
+    Later,
+}
+
+/// What is wrong with a script or a schema file.
+#[derive(Clone, Copy, Debug, PartialEq, Eq)]
+pub enum ScriptKind {
+    /// Its bytes are not UTF-8.
+    Text,
+    /// It is longer than 1 MiB.
+    Limit,
+    /// It is no schema file.
+    Schema,
+    /// It asks for something that is not made yet.
     Later,
 }
 
@@ -20,11 +35,19 @@ pub enum Status {
     Done,
     /// The words are in the form of no command.
     Usage,
+    /// The script or the schema file is not in form, which shows at this line, counted from 1.
+    ScriptBad { line: u32, kind: ScriptKind },
     TableBad { kind: TableKind, path: Text },
-    /// The store failed.
+    /// The store failed, and no version came of it.
     StoreFailed,
+    /// The script or the schema file of this name is missing, or its read failed.
+    InputFailed { name: Text },
     /// The sink failed, after everything else was carried out.
     OutputFailed,
+    /// The store failed when a version was made, and failed again when its name was read, so the version may be there or
+    /// not. It is that of a statement, counted from 1 in its session, or with the number 0 the first version of a table.
+    StateUnknown { session: Text, number: u32 },
+    /// Memory ran out, perhaps when a version was made.
     Memory,
 }
 
@@ -36,9 +59,12 @@ impl Status {
         match self {
             Status::Done => 0,
             Status::Usage => 2,
+            Status::ScriptBad { .. } => 3,
             Status::TableBad { .. } => 4,
             Status::StoreFailed => 5,
+            Status::InputFailed { .. } => 6,
             Status::OutputFailed => 7,
+            Status::StateUnknown { .. } => 8,
             Status::Memory => 9,
         }
     }

@@ -1,6 +1,6 @@
 //! Tables with a snapshot, each file of which is missing, cut off or out of form in turn.
 
-use crate::run::run_program;
+use crate::tests::run;
 use crate::sample_files::{MIXED, PLAIN};
 use plain_types::digits::after_text;
 use std::alloc::{AllocError, Global};
@@ -51,7 +51,7 @@ fn files_with(
 fn ends(alloc: Global, store: MemoryStore, sink: MemorySink, number: u8, report: &str) -> bool {
     let mut store = store;
     let mut out = sink;
-    let status = run_program(alloc, &["rows", "--table", "t"], &mut store, &mut out);
+    let status = run(alloc, &["rows", "--table", "t"], &mut store, &mut out);
     status.number() == number && out.bytes() == report.as_bytes()
 }
 

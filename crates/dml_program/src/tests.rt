@@ -1,8 +1,11 @@
 use crate::run::run_program;
+use crate::status::Status;
 use std::alloc::{AllocError, Global};
 use std::process::Abort;
 use std::test::Fail;
-use store_core::{Blob, CallKind, FailAt, File, Leave, List, MemorySink, MemoryStore, Name};
+use store_core::{
+    Blob, CallKind, FailAt, File, FixedClock, Leave, List, MemoryInputs, MemorySink, MemoryStore, Name,
+};
 
 const ROWS: [&str; 3] = ["rows", "--table", "t"];
 
@@ -40,7 +43,7 @@ fn metadata(alloc: Global, changed: &str, other: &str) -> Result<String, AllocEr
     Ok(text)
 }
 
-fn one_file(alloc: Global, name: &str, bytes: &[u8]) -> Result<List<File>, AllocError> {
+pub(crate) fn one_file(alloc: Global, name: &str, bytes: &[u8]) -> Result<List<File>, AllocError> {
     let mut files = List::new(alloc);
     files.push(File {
         name: Name::copy_of(alloc, name)?,
@@ -59,6 +62,18 @@ fn failing_at(alloc: Global, kind: CallKind) -> Result<List<FailAt>, AllocError>
     Ok(plan)
 }
 
+// Runs the program without inputs.
+pub(crate) fn run(
+    alloc: Global,
+    words: &[&str],
+    store: &mut MemoryStore,
+    out: &mut MemorySink,
+) -> Status {
+    let mut inputs = MemoryInputs::with_files(List::new(alloc), 0);
+    let mut clock = FixedClock::at(0);
+    run_program(alloc, words, store, &mut inputs, out, &mut clock)
+}
+
 // Runs the program and compares its status and what it wrote.
 fn expect(
     rt: &impl Abort,
@@ -70,7 +85,7 @@ fn expect(
 ) -> Result<(), AllocError> {
     let mut store = store;
     let mut out = MemorySink::new(alloc, 8192, 0)?;
-    let status = run_program(alloc, words, &mut store, &mut out);
+    let status = run(alloc, words, &mut store, &mut out);
     assert_eq!(rt; status.number(), number, "{words:?}");
     assert_eq!(rt; out.bytes(), report.as_bytes(), "{words:?}");
     Ok(())
@@ -158,11 +173,11 @@ fn a_failing_store_or_sink_is_named(rt: HostRuntime) -> Result<(), Fail> {
         expect(&rt, alloc, ROWS.as_slice(), store, 5, "fault store\n")?;
     }
     let mut out = MemorySink::new(alloc, 64, 1)?;
-    let status = run_program(alloc, &["rows"], &mut MemoryStore::new(alloc), &mut out);
+    let status = run(alloc, &["rows"], &mut MemoryStore::new(alloc), &mut out);
     assert_eq!(rt; status.number(), 2);
     assert_eq!(rt; out.bytes(), b"".as_slice());
     let mut short = MemorySink::new(alloc, 5, 0)?;
-    let status = run_program(alloc, &["rows"], &mut MemoryStore::new(alloc), &mut short);
+    let status = run(alloc, &["rows"], &mut MemoryStore::new(alloc), &mut short);
     assert_eq!(rt; status.number(), 2);
     assert_eq!(rt; short.bytes(), b"fault".as_slice());
     Ok(())

@@ -19,5 +19,5 @@ pub use laws::{
     the_head_of_main_is_current, the_needed_keys_stay, the_number_and_the_time_are_read,
     the_schema_stays, the_snapshot_is_read,
 };
-pub use new_table::{NewTable, first_version};
+pub use new_table::{NewTable, first_version, spec_json};
 pub use writing::{metadata_text, text};

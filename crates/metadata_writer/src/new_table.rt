@@ -80,8 +80,9 @@ fn schema_keys(alloc: Global, table: &NewTable) -> Result<Value, AllocError>
     with_int(alloc, json, "last-column-id", &table.last_column)
 }
 
+/// The JSON of a partition spec with the id 0 and these fields.
 #[tactic(auto, unfolding(crate::specs::NewTable::spec_data))]
-fn spec_json(alloc: Global, fields: Value) -> Result<Value, AllocError>
+pub fn spec_json(alloc: Global, fields: Value) -> Result<Value, AllocError>
     ensures { IfOk result (λ v. view v ≡ spec_data (view fields)) }
 {
     let json = with_int(alloc, empty_object(alloc), "spec-id", &0)?;

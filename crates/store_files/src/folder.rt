@@ -45,13 +45,29 @@ fn folder_of(name: &str) -> &str {
 }
 
 pub(crate) fn read<R: Files + AllocGlobal>(rt: &R, name: &str) -> io::Result<Vec<u8>> {
+    match read_at_most(rt, name, LONGEST_FILE)? {
+        Some(bytes) => Ok(bytes),
+        None => Err(io::Error::from(ErrorKind::FileTooLarge)),
+    }
+}
+
+/// The bytes of a file, if it has at most so many.
+pub(crate) fn read_at_most<R: Files + AllocGlobal>(
+    rt: &R,
+    name: &str,
+    most: u64,
+) -> io::Result<Option<Vec<u8>>> {
     let mut file = File::open(rt, name)?;
-    if file.metadata()?.len() > LONGEST_FILE {
-        return Err(io::Error::from(ErrorKind::FileTooLarge));
+    if file.metadata()?.len() > most {
+        return Ok(None);
     }
     let mut bytes = Vec::new(rt.alloc());
     file.read_to_end(&mut bytes)?;
-    Ok(bytes)
+    Ok(if bytes.len() as u64 > most {
+        None
+    } else {
+        Some(bytes)
+    })
 }
 
 /// Makes a file under a new name, with the folders that it needs, and brings it to the disk. Where that fails the file

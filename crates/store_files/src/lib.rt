@@ -1,10 +1,12 @@
-//! The store over a real folder. It tells nothing of its files, so what is proved of it is safety, the causes of its
-//! faults and its counts; what a folder holds is trusted.
+//! The store over a real folder, and inputs from real files. They tell nothing of their files, so what is proved of them
+//! is safety, the causes of their faults and their counts; what a folder holds is trusted.
 #![tactic(auto)]
 
+mod file_inputs;
 mod folder;
 mod folder_store;
 #[cfg(test)]
 mod tests;
 
+pub use file_inputs::FileInputs;
 pub use folder_store::FolderStore;

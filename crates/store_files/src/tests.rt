@@ -1,11 +1,11 @@
-//! Each call of the folder store once on a real folder, below the one for temporary files.
+//! Each call of the folder store and of inputs once on a real folder, below the one for temporary files.
 
-use crate::FolderStore;
+use crate::{FileInputs, FolderStore};
 use std::alloc::{AllocError, Global};
 use std::rt::{Env, Files};
 use std::test::Fail;
 use std::{env, fs, io, process};
-use store_core::{Name, ReadAnswer, Store, SwapAnswer};
+use store_core::{InputAnswer, Inputs, Name, ReadAnswer, Store, SwapAnswer};
 
 /// A folder that no other run of the tests uses, with its final slash.
 fn fresh<R: Files + Env + AllocGlobal>(rt: &R, of: &str, run: u32) -> io::Result<String> {
@@ -70,6 +70,21 @@ fn lists<R: Files + AllocGlobal + Clone + Drop>(
     }
 }
 
+/// Whether the input has these bytes where it may have at most so many, or is too long where there are to be none.
+fn gives<R: Files + AllocGlobal>(
+    alloc: Global,
+    inputs: &mut FileInputs<R>,
+    name: &str,
+    most: u64,
+    wanted: Option<&[u8]>,
+) -> bool {
+    match inputs.read(alloc, name, most) {
+        Ok(InputAnswer::Found(bytes)) => Some(bytes.as_slice()) == wanted,
+        Ok(InputAnswer::TooLong) => wanted.is_none(),
+        _ => false,
+    }
+}
+
 fn are_names(names: &[Name], wanted: &[&str]) -> bool {
     let mut rest = wanted;
     for name in names {
@@ -96,10 +111,15 @@ fn a_file_that_was_put_is_read_and_listed(rt: HostRuntime) -> Result<(), Fail> {
     let read = reads(alloc, &mut store, name.as_str(), Some(b"first"));
     let prefix = name_in(alloc, folder.as_str(), "new/")?;
     let listed = lists(alloc, &mut store, prefix.as_str(), &[name.as_str()]);
+    let mut inputs = FileInputs::new(rt.clone()?);
+    let given = gives(alloc, &mut inputs, name.as_str(), 5, Some(b"first"));
+    let too_long = gives(alloc, &mut inputs, name.as_str(), 4, None);
     fs::remove_dir_all(&rt, folder.as_str())?;
     assert!(rt; put);
     assert!(rt; read);
     assert!(rt; listed);
+    assert!(rt; given);
+    assert!(rt; too_long);
     Ok(())
 }
 
@@ -125,5 +145,7 @@ fn what_is_not_there_is_no_fault(rt: HostRuntime) -> Result<(), Fail> {
     let name = name_in(alloc, folder.as_str(), "a")?;
     assert!(rt; reads(alloc, &mut store, name.as_str(), None));
     assert!(rt; lists(alloc, &mut store, name.as_str(), &[]));
+    let mut inputs = FileInputs::new(rt.clone()?);
+    assert!(rt; matches!(inputs.read(alloc, name.as_str(), 4), Ok(InputAnswer::Missing)));
     Ok(())
 }

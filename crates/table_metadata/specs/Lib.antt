@@ -13,4 +13,5 @@ pub mod SoundSchema
 pub mod SoundSpec
 pub mod SpecJson
 pub mod TableKeys
+pub mod TableProperties
 pub mod TransformText

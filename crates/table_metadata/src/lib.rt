@@ -30,8 +30,8 @@ mod transform_text;
 
 pub use metadata::Metadata;
 pub use metadata_fault::MetadataFault;
-pub use properties::{Properties, WriteMode};
-pub use reading::read_metadata;
+pub use properties::{Properties, WriteMode, read_table_properties};
+pub use reading::{read_json, read_metadata};
 pub use references::RefItem;
 pub use schema_fault::SchemaJsonFault;
 pub use schema_json::read_table_schema;

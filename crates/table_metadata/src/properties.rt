@@ -1,10 +1,12 @@
 //! The table properties that say how rows are changed and how a commit is tried.
 ghost use Rattle.std.specs.Prelude.{◌≡◌, ◌≢◌, option_map, IfOk, IfErr, Ok, Err};
 ghost use Rattle.serde_json.specs.View.{view};
+ghost use Rattle.table_metadata.specs.TableProperties.{table_properties_of};
 ghost use Rattle.table_metadata.specs.Properties.{property_at, is_second, reads_on, is_snapshot_level, retries_of, least_to_merge_of, properties_of};
 
 use crate::MetadataFault;
 use crate::json::text_at;
+use crate::table_keys::properties_shape;
 use plain_types::digits::whole_number;
 use row_values::Text;
 use serde_json::Value;
@@ -71,6 +73,16 @@ pub(crate) fn read_properties(alloc: Global, json: &Value) -> Result<Properties,
         least_to_merge,
         merge_enabled: !disabled,
     })
+}
+
+/// Reads the properties under the key `properties` of an object, where it is an object of texts.
+#[tactic(auto, unfolding(crate::specs::TableProperties::table_properties_of))]
+pub fn read_table_properties(alloc: Global, json: &Value) -> Result<Properties, MetadataFault>
+    ensures ok { IfOk result (λ p. table_properties_of (view json.now) ≡ Ok p) }
+    ensures err { IfErr result (λ f. f ≢ MetadataFault.Memory → table_properties_of (view json.now) ≡ Err f) }
+{
+    properties_shape(alloc, json)?;
+    read_properties(alloc, json)
 }
 
 /// Whether a statement's mode is `merge-on-read`.

@@ -28,9 +28,9 @@ pub fn read_metadata(alloc: Global, bytes: &[u8]) -> Result<Metadata, MetadataFa
     read_parts(alloc, json)
 }
 
-/// The JSON object that the bytes are.
+/// The JSON object that the bytes are, in which each number is a whole number of 64 bits. Any other text is the fault `Json`.
 #[tactic(auto, unfolding(crate::specs::Metadata::json_of))]
-fn read_json(alloc: Global, bytes: &[u8]) -> Result<Value, MetadataFault>
+pub fn read_json(alloc: Global, bytes: &[u8]) -> Result<Value, MetadataFault>
     ensures ok { IfOk result (λ json. json_of bytes.now ≡ Ok (view json)) }
     ensures err { IfErr result (λ f. f ≢ MetadataFault.Memory → json_of bytes.now ≡ Err f) }
 {

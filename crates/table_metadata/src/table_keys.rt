@@ -176,7 +176,7 @@ fn listed_id(
 }
 
 #[tactic(auto, unfolding(crate::specs::TableKeys::properties_shape))]
-fn properties_shape(alloc: Global, json: &Value) -> Result<(), MetadataFault>
+pub(crate) fn properties_shape(alloc: Global, json: &Value) -> Result<(), MetadataFault>
     ensures ok { IfOk result (λ x. properties_shape (view json.now) ≡ Ok x) }
     ensures err { IfErr result (λ f. f ≢ MetadataFault.Memory → properties_shape (view json.now) ≡ Err f) }
 {

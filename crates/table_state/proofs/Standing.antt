@@ -15,7 +15,7 @@ use Rattle.table_state.specs.declared.load_fault.LoadFault.TheVariants as fault
 use Rattle.table_state.specs.declared.live_set.BranchState.{BranchState}
 use Rattle.table_state.specs.declared.live_set.BranchState.TheVariants as state
 use Rattle.table_state.specs.Paths.{name_of}
-use Rattle.table_state.specs.Versions.{version_name}
+use Rattle.table_names.specs.Versions.{version_name}
 use Rattle.table_state.specs.Files.{bytes_under, file_at, version_at, list_in, list_at, entries_in, manifest_at, rows_in, data_file_at}
 use Rattle.table_state.specs.Live.{entries_at, set_of, head_of, snapshot_with, snapshot_at, head_at, without_head, branch_at, live_of, data_rows, data_files_of, rows_at, rows_of_branch}
 

@@ -19,7 +19,7 @@ use Rattle.table_metadata.specs.declared.metadata_fault.MetadataFault.TheVariant
 use Rattle.table_state.specs.declared.load_fault.LoadFault.{LoadFault}
 use Rattle.table_state.specs.declared.load_fault.LoadFault.TheVariants as fault
 use Rattle.table_state.specs.Paths.{name_of}
-use Rattle.table_state.specs.Versions.{version_name}
+use Rattle.table_names.specs.Versions.{version_name}
 
 -- the bytes under a name of the store, which the table knows by this path
 abbrev pub bytes_under : List ℕ → List ℕ → Files → Result (List ℕ) LoadFault

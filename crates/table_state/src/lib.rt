@@ -1,4 +1,5 @@
-//! The versions of a table, as a store holds them.
+//! What the files of a table hold, as a store has them: metadata, manifest lists, manifests, data files, and the branches
+//! that they make.
 #![tactic(auto)]
 
 mod branches;
@@ -7,7 +8,6 @@ mod laws;
 mod live_set;
 mod load_fault;
 mod paths;
-mod version;
 
 pub use branches::{head_of, snapshot_with};
 pub use files::{read_data_file_at, read_list_at, read_manifest_at};
@@ -15,7 +15,6 @@ pub use laws::branches_stand_when_files_are_added;
 pub use live_set::{BranchState, LiveSet};
 pub use load_fault::LoadFault;
 pub use paths::name_of;
-pub use version::{current_version, version_name};
 
 #[cfg(test)]
 mod tests;

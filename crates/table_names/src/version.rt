@@ -2,7 +2,7 @@ ghost use Rattle.std.specs.Prelude.{◌≡◌, ◌++◌, string_bytes, IfOk};
 ghost use Rattle.std.specs.Option.{ForSome};
 ghost use Rattle.plain_types.specs.Causes.{HasCause};
 ghost use Rattle.store_core.specs.Answers.{unsettled_after};
-ghost use Rattle.table_state.specs.Versions.{greatest_version, some_version, version_behind, version_from, version_name, version_of, version_of_name, version_prefix};
+ghost use Rattle.table_names.specs.Versions.{compressed_from, compressed_of, first_compressed, greatest_version, is_compressed, is_compressed_behind, some_version, version_behind, version_from, version_name, version_of, version_of_name, version_prefix};
 
 use plain_types::digits::{after_text, has_leading_zero, number_at};
 use std::alloc::{AllocError, Global};
@@ -23,6 +23,24 @@ pub fn current_version<S: Store>(
     let prefix = version_prefix(alloc, table)?;
     let names = store.list(alloc, prefix.as_str())?;
     Ok(some_version(greatest_version(prefix.as_bytes(), names.as_slice())))
+}
+
+/// The least name of a version whose metadata is compressed, by either spelling: `v<N>.gz.metadata.json` or
+/// `v<N>.metadata.json.gz`.
+pub fn compressed_version<S: Store>(
+    alloc: Global,
+    store: &mut S,
+    table: &str,
+) -> Result<Option<Name>, StoreFault>
+    ensures name { IfOk result (λ name. ForSome (S.files store.old) (λ files. name ≡ compressed_of table.now files)) }
+    ensures files { S.files store.new ≡ S.files store.old }
+    ensures reads { S.reads store.new ≡ S.reads store.old }
+    ensures unsettled { S.unsettled store.new ≡ unsettled_after result (S.unsettled store.old) }
+    ensures cause { HasCause StoreFault.Failed StoreFault.Memory (S.faults store.old) (S.faults store.new) result }
+{
+    let prefix = version_prefix(alloc, table)?;
+    let names = store.list(alloc, prefix.as_str())?;
+    Ok(first_compressed(alloc, prefix.as_bytes(), names.as_slice())?)
 }
 
 /// The name of a version's metadata file.
@@ -86,4 +104,49 @@ fn version_from(number: u64, rest: &[u8]) -> u32
     } else {
         0
     }
+}
+
+#[tactic(auto, unfolding(crate::specs::Versions::first_compressed))]
+fn first_compressed(
+    alloc: Global,
+    prefix: &[u8],
+    names: &[Name],
+) -> Result<Option<Name>, AllocError>
+    ensures { IfOk result (λ name. name ≡ first_compressed prefix.now names.now) }
+{
+    let mut rest = names;
+    while let [name, after @ ..] = rest {
+        if is_compressed(prefix, name.as_bytes()) {
+            return Ok(Some(Name::copy_of(alloc, name.as_str())?));
+        }
+        rest = after;
+    }
+    Ok(None)
+}
+
+fn is_compressed(prefix: &[u8], name: &[u8]) -> bool
+    ensures { result ≡ is_compressed prefix.now name.now }
+{
+    match after_text(prefix, name) {
+        Some(behind) => is_compressed_behind(behind),
+        None => false,
+    }
+}
+
+#[tactic(auto, unfolding(crate::specs::Versions::is_compressed_behind))]
+fn is_compressed_behind(bytes: &[u8]) -> bool
+    ensures { result ≡ is_compressed_behind bytes.now }
+{
+    match number_at(bytes) {
+        Some((number, rest)) => !has_leading_zero(bytes) && compressed_from(number, rest),
+        None => false,
+    }
+}
+
+fn compressed_from(number: u64, rest: &[u8]) -> bool
+    ensures { result ≡ compressed_from (number, rest.now) }
+{
+    let is_compressed =
+        rest == b".gz.metadata.json".as_slice() || rest == b".metadata.json.gz".as_slice();
+    is_compressed && 0 < number && number < 1 << 32
 }

@@ -1,0 +1,36 @@
+-- What a status that says that something failed needs of the counts of faults.
+use Rattle.std.specs.Prelude.{◌≡◌, ◌⊎◌, ◌≤◌, ◌<◌, ℕ, List, Option, None}
+use Rattle.std.specs.FinMap as map
+use Rattle.std.specs.Option.{ForSome}
+use Rattle.plain_types.specs.Causes.{Rose, RoseTwice}
+use Rattle.store_core.specs.Files.{Files}
+use Rattle.dml_program.specs.declared.status.Status.{Status}
+use Rattle.dml_program.specs.declared.status.Status.TheVariants as status
+
+-- A call of the store failed and no read settled it, or two did so.
+abbrev pub HasStoreCause : Status → ℕ → ℕ → ℕ → Type 0
+HasStoreCause status.StoreFailed before now unsettled = Rose before now × (0 < unsettled)
+HasStoreCause (status.StateUnknown session number) before now unsettled = RoseTwice before now × (2 ≤ unsettled)
+HasStoreCause other before now unsettled = Unit {0}
+
+-- A read of the input failed, or the input is missing.
+abbrev pub HasInputCause : Status → Option Files → ℕ → ℕ → Type 0
+HasInputCause (status.InputFailed name) contents before now = Rose before now ⊎ ForSome contents (λ given. map.get given name ≡ None)
+HasInputCause other contents before now = Unit {0}
+
+-- Nothing of the store failed, or a read settled what did.
+abbrev pub IsSettled : ℕ → ℕ → ℕ → Type 0
+IsSettled before now unsettled = (now ≡ before) ⊎ (unsettled ≡ 0)
+
+-- a status of a command that stopped
+abbrev pub IsStop : Status → Type 0
+IsStop status.Done = ⊥
+IsStop status.Usage = ⊥
+IsStop status.OutputFailed = ⊥
+IsStop other = Unit {0}
+
+-- a status of a schema file that is not in form
+abbrev pub IsFormStop : Status → Type 0
+IsFormStop (status.ScriptBad line kind) = Unit {0}
+IsFormStop status.Memory = Unit {0}
+IsFormStop other = ⊥

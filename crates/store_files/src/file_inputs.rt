@@ -1,0 +1,45 @@
+use crate::folder;
+use std::alloc::Global;
+use std::io::ErrorKind;
+use std::rt::Files;
+use store_core::{Blob, InputAnswer, Inputs, IoFault};
+
+/// The files of the system as inputs, whose names are paths. Every error of the system counts as a fault, but for one that
+/// tells that there is no such file.
+#[derive(Drop)]
+pub struct FileInputs<R> {
+    rt: R,
+    faults: u64,
+}
+
+impl<R: Files + AllocGlobal> FileInputs<R> {
+    ghost use Rattle.std.specs.Prelude.{◌≡◌};
+
+    /// Before any read.
+    pub fn new(rt: R) -> FileInputs<R>
+        ensures { ⟦<FileInputs<R> as Inputs>⟧.faults result ≡ 0 }
+    {
+        FileInputs { rt, faults: 0 }
+    }
+}
+
+impl<R: Files + AllocGlobal> Inputs for FileInputs<R> {
+    ghost use Rattle.std.specs.Prelude.{None};
+
+    ghost contents = { λ _. None };
+
+    ghost faults = { λ inputs. inputs.faults };
+
+    fn read(&mut self, _alloc: Global, name: &str, most: u64) -> Result<InputAnswer, IoFault> {
+        match folder::read_at_most(&self.rt, name, most) {
+            Ok(Some(bytes)) => Ok(InputAnswer::Found(Blob::from_vec(bytes))),
+            Ok(None) => Ok(InputAnswer::TooLong),
+            Err(error) if error.kind() == ErrorKind::NotFound => Ok(InputAnswer::Missing),
+            Err(error) if error.kind() == ErrorKind::OutOfMemory => Err(IoFault::Memory),
+            Err(_) => {
+                self.faults = self.faults.saturating_add(1);
+                Err(IoFault::Failed)
+            }
+        }
+    }
+}
