@@ -127,8 +127,8 @@ ascii_below (b ∷ bs) h (suc i) = ascii_below bs (both (ltb b 128) (are_ascii b
 pub is_text : (bs : List ℕ) → are_ascii bs ≡ true → IsUtf8 bs
 is_text bs h = IsUtf8-from_ascii bs (ascii_below bs h)
 
-one_before : (b : ℕ) (bs : List ℕ) → are_ascii (b ∷ []) ≡ true → IsUtf8 bs → IsUtf8 (b ∷ bs)
-one_before b bs h u = IsUtf8-append (b ∷ []) bs (is_text (b ∷ []) h) u
+pub ascii_before : (b : ℕ) (bs : List ℕ) → are_ascii (b ∷ []) ≡ true → IsUtf8 bs → IsUtf8 (b ∷ bs)
+ascii_before b bs h u = IsUtf8-append (b ∷ []) bs (is_text (b ∷ []) h) u
 
 comma_text : (later : Bool) → IsUtf8 (comma_if later)
 comma_text true = is_text (44 ∷ []) refl
@@ -142,8 +142,8 @@ mutual
   utf8_text (number (negative z)) h = subst (λ (w : ℤ). IsUtf8 (signed_decimal w)) (sym h.1) (IsUtf8-from_ascii (signed_decimal (negsuc h.0)) (IsAscii-signed (negsuc h.0) h.2))
   utf8_text (number (float x)) h = absurd h
   utf8_text (string s) h = IsUtf8-quoted s h
-  utf8_text (array ds) h = one_before 91 (items_text false ds) refl (utf8_items false ds h)
-  utf8_text (object ms) h = one_before 123 (members_text false ms) refl (utf8_members false ms h.1)
+  utf8_text (array ds) h = ascii_before 91 (items_text false ds) refl (utf8_items false ds h)
+  utf8_text (object ms) h = ascii_before 123 (members_text false ms) refl (utf8_members false ms h.1)
 
   utf8_items : (later : Bool) (ds : Items) → GoodItems ds → IsUtf8 (items_text later ds)
   utf8_items later no_items h = is_text (93 ∷ []) refl
@@ -154,7 +154,7 @@ mutual
   utf8_members later (member k d ms) h =
       IsUtf8-append (comma_if later) (quoted k ++ 58 ∷ (compact_text d ++ members_text true ms)) (comma_text later)
       (IsUtf8-append (quoted k) (58 ∷ (compact_text d ++ members_text true ms)) (IsUtf8-quoted k (is_text k h.0))
-      (one_before 58 (compact_text d ++ members_text true ms) refl (IsUtf8-append (compact_text d) (members_text true ms) (utf8_text d h.1) (utf8_members true ms h.2))))
+      (ascii_before 58 (compact_text d ++ members_text true ms) refl (IsUtf8-append (compact_text d) (members_text true ms) (utf8_text d h.1) (utf8_members true ms h.2))))
 
 pub read_text : (d : Data) → Good d → depth d ≤ max_depth → json_of (compact_text d) ≡ Some d
 read_text d good shallow =

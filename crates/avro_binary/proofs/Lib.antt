@@ -16,4 +16,6 @@ pub mod SchemaFloats
 pub mod SchemaLaws
 pub mod JsonTexts
 pub mod SchemaTexts
+pub mod ReadTexts
+pub mod ReadAgain
 pub mod FittingLaws

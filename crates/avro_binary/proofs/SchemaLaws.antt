@@ -25,12 +25,12 @@ use Rattle.avro_binary.specs.Word.{word_of}
 use Rattle.avro_binary.specs.Naming.{space_of, last_dot, full_name, has_begun}
 use Rattle.avro_binary.specs.Placed.{Placing, place_each, place_inner, place_level, place_field, placed, placed_field}
 use Rattle.avro_binary.specs.SchemaText.{◌>>=◌, needed, node, text_at, narrow, id_at, decimal, logical_named, logical_of, is_map, type_name, defined_name, used, begin, finish, Nodes, Reader, each, symbol, field, record_node, enum_node, fixed_node, array_node, map_node, union_node, typed, single, schema_at, schema_of}
-use Rattle.avro_binary.specs.SchemaData.{Writing, name_data, type_key, with_id, with_logical, with_map, primitive, write_each, named, record_written, enum_written, fixed_written, written_level, field_level, written, written_field, data_of}
+use Rattle.avro_binary.specs.SchemaData.{Writing, name_data, type_key, with_id, with_logical, with_map, named_keys, primitive, symbols, write_each, named, record_written, enum_written, fixed_written, written_level, field_level, written, written_field, data_of}
 use Rattle.avro_binary.specs.SchemaOnce.{is_logical, is_id, Begins, when, no_name, one_name, each_once, once_level, once_field_level, once, once_field, has_text}
 use Rattle.avro_binary.proofs.Loops.{ne-eqb}
 use Rattle.avro_binary.proofs.SchemaFloats.{Proved, ProvedField, by_levels, written_roll, written_field_roll}
 
-abbrev names_of : List Named → List (List ℕ) → ℕ → Names
+abbrev pub names_of : List Named → List (List ℕ) → ℕ → Names
 names_of f b l = record { finished = f; begun = b; left = l }
 
 -- ---- texts
@@ -147,7 +147,7 @@ Reads s = (depth : ℕ) (space : List ℕ) → ReadsAs (schema_at depth space) (
 abbrev ReadsField : Field → Type 0
 ReadsField f = (depth : ℕ) (space : List ℕ) → ReadsAs (field (schema_at depth) space) (written_field f) f (once_field f) (placed_field f depth)
 
-abbrev got : {A : Type 0} → A → Names → Result (A × Names) SchemaFault
+abbrev pub got : {A : Type 0} → A → Names → Result (A × Names) SchemaFault
 got x names = Ok (x, names)
 
 pub same_some : {A : Type 0} (x y : A) → Some x ≡ Some y → x ≡ y
@@ -204,13 +204,13 @@ place_of x zero l left e = none_some left (sym (ap (λ (p : Placing). p zero l) 
 place_of x (suc d) zero left e = none_some left (sym (ap (λ (p : Placing). p (suc d) zero) (placed_roll x)) ∙ e)
 place_of x (suc d) (suc m) left e = (d, m, refl, refl, e)
 
-abbrev level_of : open_schema.Schema-F Schema Field → Writing Data
+abbrev pub level_of : open_schema.Schema-F Schema Field → Writing Data
 level_of x = written_level (map-Schema Schema Field (Writing Data) (Writing Data) written written_field x)
 
 abbrev begins_of : open_schema.Schema-F Schema Field → Begins
 begins_of x = once_level (map-Schema Schema Field Begins Begins once once_field x)
 
-abbrev inner_of : open_schema.Schema-F Schema Field → Placing
+abbrev pub inner_of : open_schema.Schema-F Schema Field → Placing
 inner_of x = place_inner (map-Schema Schema Field Placing Placing placed placed_field x)
 
 -- what is to be shown of one level: read one deeper, with one node more
@@ -221,7 +221,7 @@ AtLevel x = (depth : ℕ) (space : List ℕ) (f : List Named) (b after : List (L
 zero_suc : (n : ℕ) → suc n ≡ 0 → ⊥
 zero_suc n e = omega arith
 
-one_deeper : (depth : ℕ) (space : List ℕ) (d : Data) (f : List Named) (b : List (List ℕ)) (l : ℕ) → schema_at (suc depth) space d (names_of f b (suc l)) ≡ node (schema_at depth) (suc depth) space (as_array d) d (names_of f b (suc l))
+pub one_deeper : (depth : ℕ) (space : List ℕ) (d : Data) (f : List Named) (b : List (List ℕ)) (l : ℕ) → schema_at (suc depth) space d (names_of f b (suc l)) ≡ node (schema_at depth) (suc depth) space (as_array d) d (names_of f b (suc l))
 unfolding schema_at
 one_deeper depth space d f b l =
     let some : eqb (suc l) 0 ≡ false = ne-eqb (suc l) 0 (λ e. zero_suc l e) in
@@ -238,25 +238,42 @@ at_level x law (suc depth) space f b after (suc l) left begun placing =
       ap (λ (w : Writing Data). schema_at (suc depth) space (w b).0 (names_of f b (suc l))) is ∙ one_deeper depth space (level_of x b).0 f b l ∙ r.2,
     )
 
+-- what a node is read as, one deeper
+abbrev pub NodeReads : ℕ → List ℕ → Data → Names → Schema → Names → Type 0
+NodeReads depth space d before s after = node (schema_at depth) (suc depth) space (as_array d) d before ≡ Ok (s, after)
+
+pub used_is : (f : List Named) (b : List (List ℕ)) (l : ℕ) → used (names_of f b (suc l)) ≡ names_of f b l
+used_is f b l = let less : suc l - 1 ≡ l = omega arith in ap (λ (n : ℕ). names_of f b n) less
+
 -- a node with nothing inside
-leaf : (s t : Schema) (f : List Named) (b after : List (List ℕ)) (l left : ℕ) → s ≡ t → b ≡ after → l ≡ left → got s (used (names_of f b (suc l))) ≡ Ok (t, names_of f after left)
-leaf s t f b after l left same begun placing =
-    let less : suc l - 1 ≡ left = omega arith in
-    ap (λ (n : ℕ). got s (names_of f b n)) less ∙ ap (λ (x : Schema). got x (names_of f b left)) same ∙ ap (λ (n : List (List ℕ)). got t (names_of f n left)) begun
+leaf : (s t : Schema) (f : List Named) (b : List (List ℕ)) (l : ℕ) → s ≡ t → got s (used (names_of f b (suc l))) ≡ Ok (t, names_of f b l)
+leaf s t f b l same = ap (λ (n : Names). got s n) (used_is f b l) ∙ ap (λ (x : Schema). got x (names_of f b l)) same
+
+same_names : (s : Schema) (f : List Named) (b after : List (List ℕ)) (l left : ℕ) → b ≡ after → l ≡ left → got s (names_of f b l) ≡ got s (names_of f after left)
+same_names s f b after l left begun placing = ap (λ (n : List (List ℕ)). got s (names_of f n l)) begun ∙ ap (λ (n : ℕ). got s (names_of f after n)) placing
+
+pub null_read : (depth : ℕ) (space : List ℕ) (f : List Named) (b : List (List ℕ)) (l : ℕ) → NodeReads depth space (string (codes "null")) (names_of f b (suc l)) (roll-Schema open_schema.Null) (names_of f b l)
+unfolding single typed type_name
+null_read depth space f b l = leaf schema.Null (roll-Schema open_schema.Null) f b l (sym schema.rolls-Null)
 
 null_level : AtLevel open_schema.Null
+null_level depth space f b after l left begun placing = (f, same_some b after begun, null_read depth space f b l ∙ same_names (roll-Schema open_schema.Null) f b after l left (same_some b after begun) (same_some l left placing))
+
+pub boolean_read : (depth : ℕ) (space : List ℕ) (f : List Named) (b : List (List ℕ)) (l : ℕ) → NodeReads depth space (string (codes "boolean")) (names_of f b (suc l)) (roll-Schema open_schema.Boolean) (names_of f b l)
 unfolding single typed type_name
-null_level depth space f b after l left begun placing = (f, same_some b after begun, leaf schema.Null (roll-Schema open_schema.Null) f b after l left (sym schema.rolls-Null) (same_some b after begun) (same_some l left placing))
+boolean_read depth space f b l = leaf schema.Boolean (roll-Schema open_schema.Boolean) f b l (sym schema.rolls-Boolean)
 
 boolean_level : AtLevel open_schema.Boolean
+boolean_level depth space f b after l left begun placing = (f, same_some b after begun, boolean_read depth space f b l ∙ same_names (roll-Schema open_schema.Boolean) f b after l left (same_some b after begun) (same_some l left placing))
+
+pub text_read : (depth : ℕ) (space : List ℕ) (f : List Named) (b : List (List ℕ)) (l : ℕ) → NodeReads depth space (string (codes "string")) (names_of f b (suc l)) (roll-Schema open_schema.Text) (names_of f b l)
 unfolding single typed type_name
-boolean_level depth space f b after l left begun placing = (f, same_some b after begun, leaf schema.Boolean (roll-Schema open_schema.Boolean) f b after l left (sym schema.rolls-Boolean) (same_some b after begun) (same_some l left placing))
+text_read depth space f b l = leaf schema.Text (roll-Schema open_schema.Text) f b l (sym schema.rolls-Text)
 
 text_level : AtLevel open_schema.Text
-unfolding single typed type_name
-text_level depth space f b after l left begun placing = (f, same_some b after begun, leaf schema.Text (roll-Schema open_schema.Text) f b after l left (sym schema.rolls-Text) (same_some b after begun) (same_some l left placing))
+text_level depth space f b after l left begun placing = (f, same_some b after begun, text_read depth space f b l ∙ same_names (roll-Schema open_schema.Text) f b after l left (same_some b after begun) (same_some l left placing))
 
-single_of : (reader : Reader) (depth : ℕ) (space : List ℕ) (d : Data) (names : Names) (name : List ℕ) → type_name d ≡ Some name → single reader depth space d names ≡ typed reader depth space (word_of name) name d names
+pub single_of : (reader : Reader) (depth : ℕ) (space : List ℕ) (d : Data) (names : Names) (name : List ℕ) → type_name d ≡ Some name → single reader depth space d names ≡ typed reader depth space (word_of name) name d names
 unfolding single
 single_of reader depth space d names name e = ap (λ (o : Option (List ℕ)). needed o >>= λ n. typed reader depth space (word_of n) n d names) e
 
@@ -264,35 +281,41 @@ primitive_type : (word : List ℕ) (logical : Logical) → type_name (primitive 
 unfolding type_name
 primitive_type word logical = type_of word logical
 
-int_level : (logical : Logical) → AtLevel (open_schema.Int logical)
+pub int_read : (logical : Logical) → is_logical logical ≡ true → (depth : ℕ) (space : List ℕ) (f : List Named) (b : List (List ℕ)) (l : ℕ)
+    → NodeReads depth space (primitive (codes "int") logical) (names_of f b (suc l)) (roll-Schema (open_schema.Int logical)) (names_of f b l)
 unfolding typed
+int_read logical h depth space f b l =
+    single_of (schema_at depth) (suc depth) space (primitive (codes "int") logical) (names_of f b (suc l)) (codes "int") (primitive_type (codes "int") logical)
+    ∙ leaf (schema.Int (logical_of (primitive (codes "int") logical))) (roll-Schema (open_schema.Int logical)) f b l (ap (λ (g : Logical). schema.Int g) (logical_is (codes "int") logical h) ∙ sym (schema.rolls-Int logical))
+
+int_level : (logical : Logical) → AtLevel (open_schema.Int logical)
 int_level logical depth space f b after l left begun placing =
-    let o = when_true (is_logical logical) no_name b after begun in (
-      f,
-      same_some b after o.1,
-      single_of (schema_at depth) (suc depth) space (primitive (codes "int") logical) (names_of f b (suc l)) (codes "int") (primitive_type (codes "int") logical)
-          ∙ leaf (schema.Int (logical_of (primitive (codes "int") logical))) (roll-Schema (open_schema.Int logical)) f b after l left (ap (λ (g : Logical). schema.Int g) (logical_is (codes "int") logical o.0) ∙ sym (schema.rolls-Int logical)) (same_some b after o.1) (same_some l left placing),
-    )
+    let o = when_true (is_logical logical) no_name b after begun in
+    (f, same_some b after o.1, int_read logical o.0 depth space f b l ∙ same_names (roll-Schema (open_schema.Int logical)) f b after l left (same_some b after o.1) (same_some l left placing))
+
+pub long_read : (logical : Logical) → is_logical logical ≡ true → (depth : ℕ) (space : List ℕ) (f : List Named) (b : List (List ℕ)) (l : ℕ)
+    → NodeReads depth space (primitive (codes "long") logical) (names_of f b (suc l)) (roll-Schema (open_schema.Long logical)) (names_of f b l)
+unfolding typed
+long_read logical h depth space f b l =
+    single_of (schema_at depth) (suc depth) space (primitive (codes "long") logical) (names_of f b (suc l)) (codes "long") (primitive_type (codes "long") logical)
+    ∙ leaf (schema.Long (logical_of (primitive (codes "long") logical))) (roll-Schema (open_schema.Long logical)) f b l (ap (λ (g : Logical). schema.Long g) (logical_is (codes "long") logical h) ∙ sym (schema.rolls-Long logical))
 
 long_level : (logical : Logical) → AtLevel (open_schema.Long logical)
-unfolding typed
 long_level logical depth space f b after l left begun placing =
-    let o = when_true (is_logical logical) no_name b after begun in (
-      f,
-      same_some b after o.1,
-      single_of (schema_at depth) (suc depth) space (primitive (codes "long") logical) (names_of f b (suc l)) (codes "long") (primitive_type (codes "long") logical)
-          ∙ leaf (schema.Long (logical_of (primitive (codes "long") logical))) (roll-Schema (open_schema.Long logical)) f b after l left (ap (λ (g : Logical). schema.Long g) (logical_is (codes "long") logical o.0) ∙ sym (schema.rolls-Long logical)) (same_some b after o.1) (same_some l left placing),
-    )
+    let o = when_true (is_logical logical) no_name b after begun in
+    (f, same_some b after o.1, long_read logical o.0 depth space f b l ∙ same_names (roll-Schema (open_schema.Long logical)) f b after l left (same_some b after o.1) (same_some l left placing))
+
+pub bytes_read : (logical : Logical) → is_logical logical ≡ true → (depth : ℕ) (space : List ℕ) (f : List Named) (b : List (List ℕ)) (l : ℕ)
+    → NodeReads depth space (primitive (codes "bytes") logical) (names_of f b (suc l)) (roll-Schema (open_schema.Bytes logical)) (names_of f b l)
+unfolding typed
+bytes_read logical h depth space f b l =
+    single_of (schema_at depth) (suc depth) space (primitive (codes "bytes") logical) (names_of f b (suc l)) (codes "bytes") (primitive_type (codes "bytes") logical)
+    ∙ leaf (schema.Bytes (logical_of (primitive (codes "bytes") logical))) (roll-Schema (open_schema.Bytes logical)) f b l (ap (λ (g : Logical). schema.Bytes g) (logical_is (codes "bytes") logical h) ∙ sym (schema.rolls-Bytes logical))
 
 bytes_level : (logical : Logical) → AtLevel (open_schema.Bytes logical)
-unfolding typed
 bytes_level logical depth space f b after l left begun placing =
-    let o = when_true (is_logical logical) no_name b after begun in (
-      f,
-      same_some b after o.1,
-      single_of (schema_at depth) (suc depth) space (primitive (codes "bytes") logical) (names_of f b (suc l)) (codes "bytes") (primitive_type (codes "bytes") logical)
-          ∙ leaf (schema.Bytes (logical_of (primitive (codes "bytes") logical))) (roll-Schema (open_schema.Bytes logical)) f b after l left (ap (λ (g : Logical). schema.Bytes g) (logical_is (codes "bytes") logical o.0) ∙ sym (schema.rolls-Bytes logical)) (same_some b after o.1) (same_some l left placing),
-    )
+    let o = when_true (is_logical logical) no_name b after begun in
+    (f, same_some b after o.1, bytes_read logical o.0 depth space f b l ∙ same_names (roll-Schema (open_schema.Bytes logical)) f b after l left (same_some b after o.1) (same_some l left placing))
 
 -- ---- named types
 
@@ -327,8 +350,32 @@ record_type : (space name : List ℕ) (fields : Items) → type_name (object (pu
 unfolding type_name
 record_type space name fields = refl
 
-record_level : (name : List ℕ) (es : List (ProvedField ReadsField)) → AtLevel (open_schema.Record name (map (λ e. e.0) es))
+-- the JSON of a record whose fields are of these
+abbrev pub record_data : List ℕ → Items → Data
+record_data name items = object (put (codes "fields") (array items) (named_keys (codes "record") name))
+
+abbrev pub finishing : List ℕ → Schema → List Named → List Named
+finishing name s f = f ++ record { name = name; schema = s } ∷ []
+
+pub record_read : (name : List ℕ) (fields : List Field) (items : Items) (depth : ℕ) (space : List ℕ) (f finished : List Named) (b after : List (List ℕ)) (l left : ℕ) → is_utf8 name ≡ true → has_begun name b ≡ false
+    → each (field (schema_at depth) (space_of name)) items (names_of f (b ++ name ∷ []) l) ≡ Ok (fields, names_of finished after left)
+    → NodeReads depth space (record_data name items) (names_of f b (suc l)) (roll-Schema (open_schema.Record name fields)) (names_of (finishing name (schema.Record name fields) finished) after left)
 unfolding typed recorded
+record_read name fields items depth space f finished b after l left text new inner =
+    let before : Names = names_of f b (suc l) in
+    let d : List ℕ → List ℕ → Data = λ s n. object (put (codes "fields") (array items) (keys (codes "record") s n)) in
+    let goal : Data → Nodes = λ x. node (schema_at depth) (suc depth) space (as_array x) x before in
+    let s : List ℕ = utf8_lossy (space_of name) in
+    let all : List Named = finishing name (schema.Record name fields) finished in
+    let e1 : goal (d s (utf8_lossy name)) ≡ goal (d s name) = ap (λ (n : List ℕ). goal (d s n)) (lossless name text) in
+    let e2 : goal (d s name) ≡ record_node (schema_at depth) space (d s name) before = single_of (schema_at depth) (suc depth) space (d s name) before (codes "record") (record_type s name items) in
+    let e3 : record_node (schema_at depth) space (d s name) before ≡ recorded (schema_at depth) items name (used before) = record_is (schema_at depth) space s name items before ∙ ap (λ (n : List ℕ). recorded (schema_at depth) items n (used before)) (named_full name) in
+    let e4 : recorded (schema_at depth) items name (used before) ≡ Ok (finish name (schema.Record name fields) (names_of finished after left)) =
+    ap (λ r. r >>= λ begun. each (field (schema_at depth) (space_of name)) items begun >>= λ x. Ok (finish name (schema.Record name x.0) x.1)) (begin_of name f b l new)
+    ∙ ap (λ r. r >>= λ x. Ok (finish name (schema.Record name x.0) x.1)) inner in
+    e1 ∙ e2 ∙ e3 ∙ e4 ∙ ap (λ (x : Schema). got x (names_of all after left)) (sym (schema.rolls-Record name fields))
+
+record_level : (name : List ℕ) (es : List (ProvedField ReadsField)) → AtLevel (open_schema.Record name (map (λ e. e.0) es))
 record_level name es depth space f b after l left begun placing =
     let fields : List Field = map (λ (e : ProvedField ReadsField). e.0) es in
     let o = when_true (is_utf8 name) (λ n. option_and_then (each_once (map once_field fields)) (one_name name n)) b after begun in
@@ -337,20 +384,10 @@ record_level name es depth space f b after l left begun placing =
     let inner = each_reads (field (schema_at depth) (space_of name)) written_field once_field placed_field depth ReadsField (λ x q. q depth (space_of name)) es f (b ++ name ∷ []) after l left (ap (each_once (map once_field fields)) new.1 ∙ p.2) placing in
     let w : Writing Data = record_written name (map written_field fields) in
     let out : named name w b ≡ w (b ++ name ∷ []) = named_out name w b new.0 in
-    let items : Items = items_of (write_each (map written_field fields) (b ++ name ∷ [])).0 in
-    let d : List ℕ → List ℕ → Data = λ s n. object (put (codes "fields") (array items) (keys (codes "record") s n)) in
-    let goal : Data → Nodes = λ x. node (schema_at depth) (suc depth) space (as_array x) x (names_of f b (suc l)) in
-    let s : List ℕ = utf8_lossy (space_of name) in
-    let e1 : goal (named name w b).0 ≡ goal (d s (utf8_lossy name)) = ap (λ (x : Data × List (List ℕ)). goal x.0) out in
-    let e2 : goal (d s (utf8_lossy name)) ≡ goal (d s name) = ap (λ (n : List ℕ). goal (d s n)) (lossless name o.0) in
-    let e3 : goal (d s name) ≡ record_node (schema_at depth) space (d s name) (names_of f b (suc l)) = single_of (schema_at depth) (suc depth) space (d s name) (names_of f b (suc l)) (codes "record") (record_type s name items) in
-    let e4 : record_node (schema_at depth) space (d s name) (names_of f b (suc l)) ≡ recorded (schema_at depth) items name (used (names_of f b (suc l))) = record_is (schema_at depth) space s name items (names_of f b (suc l)) ∙ ap (λ (n : List ℕ). recorded (schema_at depth) items n (used (names_of f b (suc l)))) (named_full name) in
-    let e5 : recorded (schema_at depth) items name (used (names_of f b (suc l))) ≡ Ok (finish name (schema.Record name fields) (names_of inner.0 after left)) =
-    ap (λ r. r >>= λ begun. each (field (schema_at depth) (space_of name)) items begun >>= λ x. Ok (finish name (schema.Record name x.0) x.1)) (begin_of name f b l new.0)
-    ∙ ap (λ r. r >>= λ x. Ok (finish name (schema.Record name x.0) x.1)) inner.2 in (
-      inner.0 ++ record { name = name; schema = schema.Record name fields } ∷ [],
+    let items : Items = items_of (write_each (map written_field fields) (b ++ name ∷ [])).0 in (
+      finishing name (schema.Record name fields) inner.0,
       ap (λ (x : Data × List (List ℕ)). x.1) out ∙ inner.1,
-      e1 ∙ e2 ∙ e3 ∙ e4 ∙ e5 ∙ ap (λ (x : Schema). got x (names_of (inner.0 ++ record { name = name; schema = schema.Record name fields } ∷ []) after left)) (sym (schema.rolls-Record name fields)),
+      ap (λ (x : Data × List (List ℕ)). node (schema_at depth) (suc depth) space (as_array x.0) x.0 (names_of f b (suc l))) out ∙ record_read name fields items depth space f inner.0 b after l left o.0 new.0 inner.2,
     )
 
 -- ---- enums and fixed
@@ -374,30 +411,38 @@ enum_type : (space name : List ℕ) (items : Items) → type_name (object (put (
 unfolding type_name
 enum_type space name items = refl
 
-enum_level : (name : List ℕ) (ns : List (List ℕ)) → AtLevel (open_schema.Enum name ns)
+abbrev pub enum_data : List ℕ → List (List ℕ) → Data
+enum_data name ns = object (put (codes "symbols") (symbols ns) (named_keys (codes "enum") name))
+
+pub enum_read : (name : List ℕ) (ns : List (List ℕ)) (depth : ℕ) (space : List ℕ) (f : List Named) (b : List (List ℕ)) (l : ℕ) → is_utf8 name ≡ true → list_all is_utf8 ns ≡ true → has_begun name b ≡ false
+    → NodeReads depth space (enum_data name ns) (names_of f b (suc l)) (roll-Schema (open_schema.Enum name ns)) (names_of (finishing name (schema.Enum name ns) f) (b ++ name ∷ []) l)
 unfolding typed listed
+enum_read name ns depth space f b l text texts new =
+    let before : Names = names_of f b (suc l) in
+    let items : Items = items_of (map name_data ns) in
+    let d : List ℕ → List ℕ → Data = λ s n. object (put (codes "symbols") (array items) (keys (codes "enum") s n)) in
+    let goal : Data → Nodes = λ x. node (schema_at depth) (suc depth) space (as_array x) x before in
+    let s : List ℕ = utf8_lossy (space_of name) in
+    let all : List Named = finishing name (schema.Enum name ns) f in
+    let e1 : goal (d s (utf8_lossy name)) ≡ goal (d s name) = ap (λ (n : List ℕ). goal (d s n)) (lossless name text) in
+    let e2 : goal (d s name) ≡ enum_node space (d s name) before = single_of (schema_at depth) (suc depth) space (d s name) before (codes "enum") (enum_type s name items) in
+    let e3 : enum_node space (d s name) before ≡ listed items name (used before) = enum_is space s name items before ∙ ap (λ (n : List ℕ). listed items n (used before)) (named_full name) in
+    let e4 : listed items name (used before) ≡ Ok (finish name (schema.Enum name ns) (names_of f (b ++ name ∷ []) l)) =
+    ap (λ r. r >>= λ begun. each symbol items begun >>= λ x. Ok (finish name (schema.Enum name x.0) x.1)) (begin_of name f b l new)
+    ∙ ap (λ r. r >>= λ x. Ok (finish name (schema.Enum name x.0) x.1)) (symbols_read ns (names_of f (b ++ name ∷ []) l) texts) in
+    e1 ∙ e2 ∙ e3 ∙ e4 ∙ ap (λ (x : Schema). got x (names_of all (b ++ name ∷ []) l)) (sym (schema.rolls-Enum name ns))
+
+enum_level : (name : List ℕ) (ns : List (List ℕ)) → AtLevel (open_schema.Enum name ns)
 enum_level name ns depth space f b after l left begun placing =
     let o = when_true (is_utf8 name && list_all is_utf8 ns) (one_name name) b after begun in
     let u = both_true (is_utf8 name) (list_all is_utf8 ns) o.0 in
     let new = one_name_is (has_begun name b) name b after refl o.1 in
-    let same : l ≡ left = same_some l left placing in
-    let w : Writing Data = enum_written name ns in
-    let out : named name w b ≡ w (b ++ name ∷ []) = named_out name w b new.0 in
-    let items : Items = items_of (map name_data ns) in
-    let d : List ℕ → List ℕ → Data = λ s n. object (put (codes "symbols") (array items) (keys (codes "enum") s n)) in
-    let goal : Data → Nodes = λ x. node (schema_at depth) (suc depth) space (as_array x) x (names_of f b (suc l)) in
-    let s : List ℕ = utf8_lossy (space_of name) in
-    let e1 : goal (named name w b).0 ≡ goal (d s (utf8_lossy name)) = ap (λ (x : Data × List (List ℕ)). goal x.0) out in
-    let e2 : goal (d s (utf8_lossy name)) ≡ goal (d s name) = ap (λ (n : List ℕ). goal (d s n)) (lossless name u.0) in
-    let e3 : goal (d s name) ≡ enum_node space (d s name) (names_of f b (suc l)) = single_of (schema_at depth) (suc depth) space (d s name) (names_of f b (suc l)) (codes "enum") (enum_type s name items) in
-    let e4 : enum_node space (d s name) (names_of f b (suc l)) ≡ listed items name (used (names_of f b (suc l))) = enum_is space s name items (names_of f b (suc l)) ∙ ap (λ (n : List ℕ). listed items n (used (names_of f b (suc l)))) (named_full name) in
-    let e5 : listed items name (used (names_of f b (suc l))) ≡ Ok (finish name (schema.Enum name ns) (names_of f (b ++ name ∷ []) l)) =
-    ap (λ r. r >>= λ begun. each symbol items begun >>= λ x. Ok (finish name (schema.Enum name x.0) x.1)) (begin_of name f b l new.0)
-    ∙ ap (λ r. r >>= λ x. Ok (finish name (schema.Enum name x.0) x.1)) (symbols_read ns (names_of f (b ++ name ∷ []) l) u.1) in
-    let finished : List Named = f ++ record { name = name; schema = schema.Enum name ns } ∷ [] in (
-      finished,
+    let out = named_out name (enum_written name ns) b new.0 in
+    let all : List Named = finishing name (schema.Enum name ns) f in (
+      all,
       ap (λ (x : Data × List (List ℕ)). x.1) out ∙ new.1,
-      e1 ∙ e2 ∙ e3 ∙ e4 ∙ e5 ∙ ap (λ (n : List (List ℕ)). got (schema.Enum name ns) (names_of finished n l)) new.1 ∙ ap (λ (n : ℕ). got (schema.Enum name ns) (names_of finished after n)) same ∙ ap (λ (x : Schema). got x (names_of finished after left)) (sym (schema.rolls-Enum name ns)),
+      ap (λ (x : Data × List (List ℕ)). node (schema_at depth) (suc depth) space (as_array x.0) x.0 (names_of f b (suc l))) out ∙ enum_read name ns depth space f b l u.0 u.1 new.0
+          ∙ same_names (roll-Schema (open_schema.Enum name ns)) all (b ++ name ∷ []) after l left new.1 (same_some l left placing),
     )
 
 fixed_done : ℕ → Logical → List ℕ → Names → Nodes
@@ -419,37 +464,43 @@ fixed_type space name size (TimestampMicros utc) = refl
 fixed_type space name size (Decimal precision scale) = refl
 fixed_type space name size (Other other) = refl
 
-fixed_level : (name : List ℕ) (size : ℕ) (logical : Logical) → AtLevel (open_schema.Fixed name size logical)
+abbrev pub fixed_text : List ℕ → ℕ → Logical → Data
+fixed_text name size logical = object (with_logical logical (put (codes "size") (number (unsigned size)) (named_keys (codes "fixed") name)))
+
+pub fixed_read : (name : List ℕ) (size : ℕ) (logical : Logical) (depth : ℕ) (space : List ℕ) (f : List Named) (b : List (List ℕ)) (l : ℕ) → is_utf8 name ≡ true → is_logical logical ≡ true → has_begun name b ≡ false
+    → NodeReads depth space (fixed_text name size logical) (names_of f b (suc l)) (roll-Schema (open_schema.Fixed name size logical)) (names_of (finishing name (schema.Fixed name size logical) f) (b ++ name ∷ []) l)
 unfolding typed fixed_done fixed_data
+fixed_read name size logical depth space f b l text type new =
+    let before : Names = names_of f b (suc l) in
+    let goal : Data → Nodes = λ x. node (schema_at depth) (suc depth) space (as_array x) x before in
+    let s : List ℕ = utf8_lossy (space_of name) in
+    let d : List ℕ → Data = λ n. fixed_data s n size logical in
+    let all : List Named = finishing name (schema.Fixed name size logical) f in
+    let e1 : goal (d (utf8_lossy name)) ≡ goal (d name) = ap (λ (n : List ℕ). goal (d n)) (lossless name text) in
+    let e2 : goal (d name) ≡ fixed_node space (d name) before = single_of (schema_at depth) (suc depth) space (d name) before (codes "fixed") (fixed_type s name size logical) in
+    let e3 : fixed_node space (d name) before ≡ fixed_done size logical name (used before) =
+    fixed_is space s name size logical before ∙ ap (λ (n : List ℕ). fixed_done size (logical_of (d name)) n (used before)) (named_full name) ∙ ap (λ (h : Logical). fixed_done size h name (used before)) (fixed_logical_is s name size logical type) in
+    let e4 : fixed_done size logical name (used before) ≡ Ok (finish name (schema.Fixed name size logical) (names_of f (b ++ name ∷ []) l)) =
+    ap (λ r. r >>= λ begun. Ok (finish name (schema.Fixed name size logical) begun)) (begin_of name f b l new) in
+    e1 ∙ e2 ∙ e3 ∙ e4 ∙ ap (λ (x : Schema). got x (names_of all (b ++ name ∷ []) l)) (sym (schema.rolls-Fixed name size logical))
+
+fixed_level : (name : List ℕ) (size : ℕ) (logical : Logical) → AtLevel (open_schema.Fixed name size logical)
 fixed_level name size logical depth space f b after l left begun placing =
     let o = when_true (is_utf8 name && (is_logical logical && nat_lt size (2 ^ 64))) (one_name name) b after begun in
     let u = both_true (is_utf8 name) (is_logical logical && nat_lt size (2 ^ 64)) o.0 in
     let g = both_true (is_logical logical) (nat_lt size (2 ^ 64)) u.1 in
     let new = one_name_is (has_begun name b) name b after refl o.1 in
-    let same : l ≡ left = same_some l left placing in
-    let w : Writing Data = fixed_written name size logical in
-    let out : named name w b ≡ w (b ++ name ∷ []) = named_out name w b new.0 in
-    let goal : Data → Nodes = λ x. node (schema_at depth) (suc depth) space (as_array x) x (names_of f b (suc l)) in
-    let s : List ℕ = utf8_lossy (space_of name) in
-    let d : List ℕ → Data = λ n. fixed_data s n size logical in
-    let e1 : goal (named name w b).0 ≡ goal (d (utf8_lossy name)) = ap (λ (x : Data × List (List ℕ)). goal x.0) out in
-    let e2 : goal (d (utf8_lossy name)) ≡ goal (d name) = ap (λ (n : List ℕ). goal (d n)) (lossless name u.0) in
-    let e3 : goal (d name) ≡ fixed_node space (d name) (names_of f b (suc l)) = single_of (schema_at depth) (suc depth) space (d name) (names_of f b (suc l)) (codes "fixed") (fixed_type s name size logical) in
-    let e4 : fixed_node space (d name) (names_of f b (suc l)) ≡ fixed_done size logical name (used (names_of f b (suc l))) =
-    fixed_is space s name size logical (names_of f b (suc l)) ∙ ap (λ (n : List ℕ). fixed_done size (logical_of (d name)) n (used (names_of f b (suc l)))) (named_full name)
-    ∙ ap (λ (h : Logical). fixed_done size h name (used (names_of f b (suc l)))) (fixed_logical_is s name size logical g.0) in
-    let e5 : fixed_done size logical name (used (names_of f b (suc l))) ≡ Ok (finish name (schema.Fixed name size logical) (names_of f (b ++ name ∷ []) l)) =
-    ap (λ r. r >>= λ begun. Ok (finish name (schema.Fixed name size logical) begun)) (begin_of name f b l new.0) in
-    let finished : List Named = f ++ record { name = name; schema = schema.Fixed name size logical } ∷ [] in (
-      finished,
+    let out = named_out name (fixed_written name size logical) b new.0 in
+    let all : List Named = finishing name (schema.Fixed name size logical) f in (
+      all,
       ap (λ (x : Data × List (List ℕ)). x.1) out ∙ new.1,
-      e1 ∙ e2 ∙ e3 ∙ e4 ∙ e5 ∙ ap (λ (n : List (List ℕ)). got (schema.Fixed name size logical) (names_of finished n l)) new.1 ∙ ap (λ (n : ℕ). got (schema.Fixed name size logical) (names_of finished after n)) same
-          ∙ ap (λ (x : Schema). got x (names_of finished after left)) (sym (schema.rolls-Fixed name size logical)),
+      ap (λ (x : Data × List (List ℕ)). node (schema_at depth) (suc depth) space (as_array x.0) x.0 (names_of f b (suc l))) out ∙ fixed_read name size logical depth space f b l u.0 g.0 new.0
+          ∙ same_names (roll-Schema (open_schema.Fixed name size logical)) all (b ++ name ∷ []) after l left new.1 (same_some l left placing),
     )
 
 -- ---- arrays, maps and unions
 
-array_data : Data → Option ℤ → Bool → Data
+unfoldable pub array_data : Data → Option ℤ → Bool → Data
 array_data inner element map = object (with_map map (with_id (codes "element-id") element (put (codes "items") inner (type_key (codes "array")))))
 
 array_type : (inner : Data) (element : Option ℤ) (map : Bool) → type_name (array_data inner element map) ≡ Some (codes "array")
@@ -483,29 +534,28 @@ array_is reader space inner None true names = refl
 array_is reader space inner (Some z) false names = refl
 array_is reader space inner (Some z) true names = refl
 
-used_is : (f : List Named) (b : List (List ℕ)) (l : ℕ) → used (names_of f b (suc l)) ≡ names_of f b l
-used_is f b l = let less : suc l - 1 ≡ l = omega arith in ap (λ (n : ℕ). names_of f b n) less
+pub array_read : (s : Schema) (element : Option ℤ) (map : Bool) (i : Data) (depth : ℕ) (space : List ℕ) (f : List Named) (b : List (List ℕ)) (l : ℕ) (after : Names) → is_id element ≡ true → schema_at depth space i (names_of f b l) ≡ Ok (s, after)
+    → NodeReads depth space (array_data i element map) (names_of f b (suc l)) (roll-Schema (open_schema.Array s element map)) after
+unfolding typed arrayed array_data
+array_read s element map i depth space f b l after id inner =
+    let d : Data = array_data i element map in
+    let names : Names = names_of f b (suc l) in
+    single_of (schema_at depth) (suc depth) space d names (codes "array") (array_type i element map)
+    ∙ array_is (schema_at depth) space i element map names
+    ∙ ap (λ (x : Option ℤ). arrayed (schema_at depth) space i x (is_map d) (used names)) (array_element i element map id)
+    ∙ ap (λ (x : Bool). arrayed (schema_at depth) space i element x (used names)) (array_map i element map)
+    ∙ ap (λ (n : Names). arrayed (schema_at depth) space i element map n) (used_is f b l)
+    ∙ ap (λ r. r >>= λ x. Ok (schema.Array x.0 element map, x.1)) inner
+    ∙ ap (λ (x : Schema). got x after) (sym (schema.rolls-Array s element map))
 
 array_level : (e : Proved Reads) (element : Option ℤ) (map : Bool) → AtLevel (open_schema.Array e.0 element map)
-unfolding typed arrayed array_data
+unfolding array_data
 array_level e element map depth space f b after l left begun placing =
     let o = when_true (is_id element) (once e.0) b after begun in
     let inner = e.1 depth space f b after l left o.1 placing in
-    let i : Data = (written e.0 b).0 in
-    let d : Data = array_data i element map in
-    let names : Names = names_of f b (suc l) in (
-      inner.0,
-      inner.1,
-      single_of (schema_at depth) (suc depth) space d names (codes "array") (array_type i element map)
-          ∙ array_is (schema_at depth) space i element map names
-          ∙ ap (λ (x : Option ℤ). arrayed (schema_at depth) space i x (is_map d) (used names)) (array_element i element map o.0)
-          ∙ ap (λ (x : Bool). arrayed (schema_at depth) space i element x (used names)) (array_map i element map)
-          ∙ ap (λ (n : Names). arrayed (schema_at depth) space i element map n) (used_is f b l)
-          ∙ ap (λ r. r >>= λ x. Ok (schema.Array x.0 element map, x.1)) inner.2
-          ∙ ap (λ (x : Schema). got x (names_of inner.0 after left)) (sym (schema.rolls-Array e.0 element map)),
-    )
+    (inner.0, inner.1, array_read e.0 element map (written e.0 b).0 depth space f b l (names_of inner.0 after left) o.0 inner.2)
 
-map_data : Data → Option ℤ → Option ℤ → Data
+unfoldable pub map_data : Data → Option ℤ → Option ℤ → Data
 map_data inner key value = object (with_id (codes "value-id") value (with_id (codes "key-id") key (put (codes "values") inner (type_key (codes "map")))))
 
 map_type : (inner : Data) (key value : Option ℤ) → type_name (map_data inner key value) ≡ Some (codes "map")
@@ -539,46 +589,49 @@ map_is reader space inner None (Some w) names = refl
 map_is reader space inner (Some z) None names = refl
 map_is reader space inner (Some z) (Some w) names = refl
 
-map_level : (e : Proved Reads) (key value : Option ℤ) → AtLevel (open_schema.Map e.0 key value)
+pub map_read : (s : Schema) (key value : Option ℤ) (i : Data) (depth : ℕ) (space : List ℕ) (f : List Named) (b : List (List ℕ)) (l : ℕ) (after : Names) → is_id key ≡ true → is_id value ≡ true → schema_at depth space i (names_of f b l) ≡ Ok (s, after)
+    → NodeReads depth space (map_data i key value) (names_of f b (suc l)) (roll-Schema (open_schema.Map s key value)) after
 unfolding typed mapped map_data
+map_read s key value i depth space f b l after key_id value_id inner =
+    let d : Data = map_data i key value in
+    let names : Names = names_of f b (suc l) in
+    single_of (schema_at depth) (suc depth) space d names (codes "map") (map_type i key value)
+    ∙ map_is (schema_at depth) space i key value names
+    ∙ ap (λ (x : Option ℤ). mapped (schema_at depth) space i x (id_at (codes "value-id") d) (used names)) (map_key i key value key_id)
+    ∙ ap (λ (x : Option ℤ). mapped (schema_at depth) space i key x (used names)) (map_value i key value value_id)
+    ∙ ap (λ (n : Names). mapped (schema_at depth) space i key value n) (used_is f b l)
+    ∙ ap (λ r. r >>= λ x. Ok (schema.Map x.0 key value, x.1)) inner
+    ∙ ap (λ (x : Schema). got x after) (sym (schema.rolls-Map s key value))
+
+map_level : (e : Proved Reads) (key value : Option ℤ) → AtLevel (open_schema.Map e.0 key value)
+unfolding map_data
 map_level e key value depth space f b after l left begun placing =
     let o = when_true (is_id key && is_id value) (once e.0) b after begun in
     let ids = both_true (is_id key) (is_id value) o.0 in
     let inner = e.1 depth space f b after l left o.1 placing in
-    let i : Data = (written e.0 b).0 in
-    let d : Data = map_data i key value in
-    let names : Names = names_of f b (suc l) in (
-      inner.0,
-      inner.1,
-      single_of (schema_at depth) (suc depth) space d names (codes "map") (map_type i key value)
-          ∙ map_is (schema_at depth) space i key value names
-          ∙ ap (λ (x : Option ℤ). mapped (schema_at depth) space i x (id_at (codes "value-id") d) (used names)) (map_key i key value ids.0)
-          ∙ ap (λ (x : Option ℤ). mapped (schema_at depth) space i key x (used names)) (map_value i key value ids.1)
-          ∙ ap (λ (n : Names). mapped (schema_at depth) space i key value n) (used_is f b l)
-          ∙ ap (λ r. r >>= λ x. Ok (schema.Map x.0 key value, x.1)) inner.2
-          ∙ ap (λ (x : Schema). got x (names_of inner.0 after left)) (sym (schema.rolls-Map e.0 key value)),
-    )
+    (inner.0, inner.1, map_read e.0 key value (written e.0 b).0 depth space f b l (names_of inner.0 after left) ids.0 ids.1 inner.2)
 
 union_is : (reader : Reader) (space : List ℕ) (items : Items) (names : Names) → union_node reader space items names ≡ (each (reader space) items (used names) >>= λ inner. Ok (schema.Union inner.0, inner.1))
 unfolding union_node
 union_is reader space items names = refl
 
+pub union_read : (branches : List Schema) (items : Items) (depth : ℕ) (space : List ℕ) (f : List Named) (b : List (List ℕ)) (l : ℕ) (after : Names) → each (schema_at depth space) items (names_of f b l) ≡ Ok (branches, after)
+    → NodeReads depth space (array items) (names_of f b (suc l)) (roll-Schema (open_schema.Union branches)) after
+union_read branches items depth space f b l after inner =
+    union_is (schema_at depth) space items (names_of f b (suc l))
+    ∙ ap (λ (n : Names). each (schema_at depth space) items n >>= λ x. Ok (schema.Union x.0, x.1)) (used_is f b l)
+    ∙ ap (λ r. r >>= λ x. Ok (schema.Union x.0, x.1)) inner
+    ∙ ap (λ (x : Schema). got x after) (sym (schema.rolls-Union branches))
+
 union_level : (es : List (Proved Reads)) → AtLevel (open_schema.Union (map (λ e. e.0) es))
 union_level es depth space f b after l left begun placing =
     let branches : List Schema = map (λ (e : Proved Reads). e.0) es in
     let inner = each_reads (schema_at depth space) written once placed depth Reads (λ x q. q depth space) es f b after l left begun placing in
-    let items : Items = items_of (write_each (map written branches) b).0 in (
-      inner.0,
-      inner.1,
-      union_is (schema_at depth) space items (names_of f b (suc l))
-          ∙ ap (λ (n : Names). each (schema_at depth space) items n >>= λ x. Ok (schema.Union x.0, x.1)) (used_is f b l)
-          ∙ ap (λ r. r >>= λ x. Ok (schema.Union x.0, x.1)) inner.2
-          ∙ ap (λ (x : Schema). got x (names_of inner.0 after left)) (sym (schema.rolls-Union branches)),
-    )
+    (inner.0, inner.1, union_read branches (items_of (write_each (map written branches) b).0) depth space f b l (names_of inner.0 after left) inner.2)
 
 -- ---- fields
 
-field_data : List ℕ → Option ℤ → Data → Data
+unfoldable pub field_data : List ℕ → Option ℤ → Data → Data
 field_data name id inner = object (with_id (codes "field-id") id (put (codes "type") inner (put (codes "name") (string name) no_members)))
 
 field_id : (name : List ℕ) (id : Option ℤ) (inner : Data) → is_id id ≡ true → id_at (codes "field-id") (field_data name id inner) ≡ id
@@ -597,24 +650,28 @@ field_is reader space name (Some z) inner names = refl
 field_made : (name : List ℕ) (id : Option ℤ) (s : Schema) → (let x : Field = record { name = name; id = id; schema = s } in x) ≡ roll-Field (record { name = name; id = id; schema = s })
 field_made name id s = refl
 
-field_reads : (name : List ℕ) (id : Option ℤ) (e : Proved Reads) → ReadsField (roll-Field (record { name = name; id = id; schema = e.0 }))
+pub field_read : (name : List ℕ) (id : Option ℤ) (s : Schema) (i : Data) (depth : ℕ) (space : List ℕ) (before after : Names) → is_utf8 name ≡ true → is_id id ≡ true → schema_at depth space i before ≡ Ok (s, after)
+    → field (schema_at depth) space (field_data (utf8_lossy name) id i) before ≡ Ok (roll-Field (record { name = name; id = id; schema = s }), after)
 unfolding fielded field_data
+field_read name id s i depth space before after text has_id inner =
+    ap (λ (n : List ℕ). field (schema_at depth) space (field_data n id i) before) (lossless name text)
+    ∙ field_is (schema_at depth) space name id i before
+    ∙ ap (λ (k : Option ℤ). fielded (schema_at depth) space name k i before) (field_id name id i has_id)
+    ∙ ap (λ r. r >>= λ y. Ok (record { name = name; id = id; schema = y.0 }, y.1)) inner
+    ∙ ap (λ (g : Field). got g after) (field_made name id s)
+
+field_reads : (name : List ℕ) (id : Option ℤ) (e : Proved Reads) → ReadsField (roll-Field (record { name = name; id = id; schema = e.0 }))
+unfolding field_data
 field_reads name id e depth space f b after l left begun placing =
     let x : open_schema.Field-F Schema Field = record { name = name; id = id; schema = e.0 } in
     let o = when_true (is_utf8 name && is_id id) (once e.0) b after (sym (ap (λ (g : Begins). g b) (once_field_roll x)) ∙ begun) in
     let u = both_true (is_utf8 name) (is_id id) o.0 in
     let inner = e.1 depth space f b after l left o.1 (sym (ap (λ (p : Placing). p depth l) (placed_field_roll x)) ∙ placing) in
     let is : written_field (roll-Field x) ≡ field_level (map-Field Schema Field (Writing Data) (Writing Data) written written_field x) = written_field_roll x in
-    let i : Data = (written e.0 b).0 in
     let names : Names = names_of f b l in (
       inner.0,
       ap (λ (w : Writing Data). (w b).1) is ∙ inner.1,
-      ap (λ (w : Writing Data). field (schema_at depth) space (w b).0 names) is
-          ∙ ap (λ (n : List ℕ). field (schema_at depth) space (field_data n id i) names) (lossless name u.0)
-          ∙ field_is (schema_at depth) space name id i names
-          ∙ ap (λ (k : Option ℤ). fielded (schema_at depth) space name k i names) (field_id name id i u.1)
-          ∙ ap (λ r. r >>= λ y. Ok (record { name = name; id = id; schema = y.0 }, y.1)) inner.2
-          ∙ ap (λ (g : Field). got g (names_of inner.0 after left)) (field_made name id e.0),
+      ap (λ (w : Writing Data). field (schema_at depth) space (w b).0 names) is ∙ field_read name id e.0 (written e.0 b).0 depth space names (names_of inner.0 after left) u.0 u.1 inner.2,
     )
 
 pub levels : (y : open_schema.Schema-F (Proved Reads) (ProvedField ReadsField)) → Reads (roll-Schema (map-Schema (Proved Reads) (ProvedField ReadsField) Schema Field (λ e. e.0) (λ e. e.0) y))

@@ -61,12 +61,15 @@ space_by name o e (inr (at, is, lt, dot)) text =
     let ascii : get_or name at 0 < 128 = omega arith in
     subst IsUtf8 (sym (ap (λ (p : Option ℕ). take (unwrap_or p 0) name) (e ∙ is))) (IsUtf8-take name at text (IsCharBoundary-before_ascii name at lt ascii))
 
+pub space_is_text : (name : List ℕ) → IsUtf8 name → IsUtf8 (space_of name)
+space_is_text name text = space_by name (last_dot name) refl (dots [] name None (inl refl)) text
+
 text_of : (name : List ℕ) → is_utf8 name ≡ true → IsUtf8 (utf8_lossy name)
 text_of name h = subst IsUtf8 (sym (lossless name h)) (IsUtf8-from_is_utf8 name h)
 
 space_text : (name : List ℕ) → is_utf8 name ≡ true → IsUtf8 (utf8_lossy (space_of name))
 space_text name h =
-    let space : IsUtf8 (space_of name) = space_by name (last_dot name) refl (dots [] name None (inl refl)) (IsUtf8-from_is_utf8 name h) in
+    let space : IsUtf8 (space_of name) = space_is_text name (IsUtf8-from_is_utf8 name h) in
     subst IsUtf8 (sym (utf8_lossy-IsUtf8 (space_of name) space)) space
 
 -- ---- members
@@ -162,9 +165,6 @@ good_named name w b after begun good ends =
     let out : named name w b ≡ w after = named_out name w b new.0 ∙ ap w new.1 in
     (ap (λ (x : Data × List (List ℕ)). x.1) out ∙ ends, subst (λ (x : Data × List (List ℕ)). Good x.0) (sym out) good)
 
-primitive_good : (word : List ℕ) (logical : Logical) → IsUtf8 word → is_logical logical ≡ true → rebuilt (with_logical logical (type_key word)) no_members ≡ with_logical logical (type_key word) → Good (primitive word logical)
-primitive_good word logical hw h built = (built, logical_good logical (type_key word) h (type_good word hw))
-
 built_primitive : (word : List ℕ) (logical : Logical) → rebuilt (with_logical logical (type_key word)) no_members ≡ with_logical logical (type_key word)
 built_primitive word Plain = refl
 built_primitive word Date = refl
@@ -172,11 +172,20 @@ built_primitive word (TimestampMicros utc) = refl
 built_primitive word (Decimal precision scale) = refl
 built_primitive word (Other name) = refl
 
+pub primitive_is_good : (word : List ℕ) (logical : Logical) → IsUtf8 word → is_logical logical ≡ true → Good (primitive word logical)
+primitive_is_good word logical hw h = (built_primitive word logical, logical_good logical (type_key word) h (type_good word hw))
+
 built_record : (items : Data) (name : List ℕ) → rebuilt (put (codes "fields") items (named_keys (codes "record") name)) no_members ≡ put (codes "fields") items (named_keys (codes "record") name)
 built_record items name = refl
 
+pub record_is_good : (name : List ℕ) (items : Items) → is_utf8 name ≡ true → GoodItems items → Good (object (put (codes "fields") (array items) (named_keys (codes "record") name)))
+record_is_good name items text good = (built_record (array items) name, put_good (codes "fields") (array items) (named_keys (codes "record") name) refl good (keys_good (codes "record") name (is_text (codes "record") refl) text))
+
 built_enum : (items : Data) (name : List ℕ) → rebuilt (put (codes "symbols") items (named_keys (codes "enum") name)) no_members ≡ put (codes "symbols") items (named_keys (codes "enum") name)
 built_enum items name = refl
+
+pub enum_is_good : (name : List ℕ) (ns : List (List ℕ)) → is_utf8 name ≡ true → list_all is_utf8 ns ≡ true → Good (object (put (codes "symbols") (symbols ns) (named_keys (codes "enum") name)))
+enum_is_good name ns text texts = (built_enum (symbols ns) name, put_good (codes "symbols") (symbols ns) (named_keys (codes "enum") name) refl (symbols_good ns texts) (keys_good (codes "enum") name (is_text (codes "enum") refl) text))
 
 abbrev fixed_keys : List ℕ → ℕ → Logical → Members
 fixed_keys name size logical = with_logical logical (put (codes "size") (number (unsigned size)) (named_keys (codes "fixed") name))
@@ -188,6 +197,10 @@ built_fixed name size (TimestampMicros utc) = refl
 built_fixed name size (Decimal precision scale) = refl
 built_fixed name size (Other other) = refl
 
+pub fixed_is_good : (name : List ℕ) (size : ℕ) (logical : Logical) → is_utf8 name ≡ true → is_logical logical ≡ true → size < 2 ^ 64 → Good (object (fixed_keys name size logical))
+fixed_is_good name size logical text type small =
+    (built_fixed name size logical, logical_good logical _ type (put_good (codes "size") (number (unsigned size)) (named_keys (codes "fixed") name) refl small (keys_good (codes "fixed") name (is_text (codes "fixed") refl) text)))
+
 abbrev array_keys : Data → Option ℤ → Bool → Members
 array_keys inner element map = with_map map (with_id (codes "element-id") element (put (codes "items") inner (type_key (codes "array"))))
 
@@ -196,6 +209,10 @@ built_array inner None false = refl
 built_array inner None true = refl
 built_array inner (Some z) false = refl
 built_array inner (Some z) true = refl
+
+pub array_is_good : (inner : Data) (element : Option ℤ) (map : Bool) → is_id element ≡ true → Good inner → Good (object (array_keys inner element map))
+array_is_good inner element map id good =
+    (built_array inner element map, map_good map _ (id_good (codes "element-id") element _ refl id (put_good (codes "items") inner (type_key (codes "array")) refl good (type_good (codes "array") (is_text (codes "array") refl)))))
 
 abbrev map_keys : Data → Option ℤ → Option ℤ → Members
 map_keys inner key value = with_id (codes "value-id") value (with_id (codes "key-id") key (put (codes "values") inner (type_key (codes "map"))))
@@ -206,12 +223,20 @@ built_map inner None (Some w) = refl
 built_map inner (Some z) None = refl
 built_map inner (Some z) (Some w) = refl
 
+pub map_is_good : (inner : Data) (key value : Option ℤ) → is_id key ≡ true → is_id value ≡ true → Good inner → Good (object (map_keys inner key value))
+map_is_good inner key value key_id value_id good =
+    (built_map inner key value, id_good (codes "value-id") value _ refl value_id (id_good (codes "key-id") key _ refl key_id (put_good (codes "values") inner (type_key (codes "map")) refl good (type_good (codes "map") (is_text (codes "map") refl)))))
+
 abbrev field_keys : List ℕ → Option ℤ → Data → Members
 field_keys name id inner = with_id (codes "field-id") id (put (codes "type") inner (put (codes "name") (name_data name) no_members))
 
 built_field : (name : List ℕ) (id : Option ℤ) (inner : Data) → rebuilt (field_keys name id inner) no_members ≡ field_keys name id inner
 built_field name None inner = refl
 built_field name (Some z) inner = refl
+
+pub field_is_good : (name : List ℕ) (id : Option ℤ) (inner : Data) → is_utf8 name ≡ true → is_id id ≡ true → Good inner → Good (object (field_keys name id inner))
+field_is_good name id inner text has_id good =
+    (built_field name id inner, id_good (codes "field-id") id _ refl has_id (put_good (codes "type") inner (put (codes "name") (name_data name) no_members) refl good (refl, text_of name text, tt)))
 
 record_good : (name : List ℕ) (es : List (ProvedField GoodField)) → GoodWriting (named name (record_written name (map written_field (map (λ e. e.0) es)))) (when (is_utf8 name) (λ b. option_and_then (each_once (map once_field (map (λ e. e.0) es))) (one_name name b)))
 record_good name es b after begun =
@@ -224,31 +249,31 @@ record_good name es b after begun =
     let out : named name w b ≡ w p.0 = named_out name w b new.0 ∙ ap w new.1 in (
       ap (λ (x : Data × List (List ℕ)). x.1) out ∙ inner.0,
       subst (λ (x : Data × List (List ℕ)). Good x.0) (sym out)
-          (built_record (array (items_of (write_each (map written_field fields) p.0).0)) name, put_good (codes "fields") (array (items_of (write_each (map written_field fields) p.0).0)) (named_keys (codes "record") name) refl inner.1 (keys_good (codes "record") name (is_text (codes "record") refl) o.0)),
+          (record_is_good name (items_of (write_each (map written_field fields) p.0).0) o.0 inner.1),
     )
 
 good_levels : (y : open_schema.Schema-F (Proved GoodSchema) (ProvedField GoodField)) → GoodSchema (roll-Schema (map-Schema (Proved GoodSchema) (ProvedField GoodField) Schema Field (λ e. e.0) (λ e. e.0) y))
 good_levels open_schema.Null = good_level open_schema.Null _ _ (written_roll open_schema.Null) (once_roll open_schema.Null) (λ b after begun. (same_some b after begun, is_text (codes "null") refl))
 good_levels open_schema.Boolean = good_level open_schema.Boolean _ _ (written_roll open_schema.Boolean) (once_roll open_schema.Boolean) (λ b after begun. (same_some b after begun, is_text (codes "boolean") refl))
 good_levels (open_schema.Int logical) = good_level (open_schema.Int logical) _ _ (written_roll (open_schema.Int logical)) (once_roll (open_schema.Int logical))
-    (λ b after begun. (let o = when_true (is_logical logical) _ b after begun in (same_some b after o.1, primitive_good (codes "int") logical (is_text (codes "int") refl) o.0 (built_primitive (codes "int") logical))))
+    (λ b after begun. (let o = when_true (is_logical logical) _ b after begun in (same_some b after o.1, primitive_is_good (codes "int") logical (is_text (codes "int") refl) o.0)))
 good_levels (open_schema.Long logical) = good_level (open_schema.Long logical) _ _ (written_roll (open_schema.Long logical)) (once_roll (open_schema.Long logical))
-    (λ b after begun. (let o = when_true (is_logical logical) _ b after begun in (same_some b after o.1, primitive_good (codes "long") logical (is_text (codes "long") refl) o.0 (built_primitive (codes "long") logical))))
+    (λ b after begun. (let o = when_true (is_logical logical) _ b after begun in (same_some b after o.1, primitive_is_good (codes "long") logical (is_text (codes "long") refl) o.0)))
 good_levels (open_schema.Bytes logical) = good_level (open_schema.Bytes logical) _ _ (written_roll (open_schema.Bytes logical)) (once_roll (open_schema.Bytes logical))
-    (λ b after begun. (let o = when_true (is_logical logical) _ b after begun in (same_some b after o.1, primitive_good (codes "bytes") logical (is_text (codes "bytes") refl) o.0 (built_primitive (codes "bytes") logical))))
+    (λ b after begun. (let o = when_true (is_logical logical) _ b after begun in (same_some b after o.1, primitive_is_good (codes "bytes") logical (is_text (codes "bytes") refl) o.0)))
 good_levels open_schema.Text = good_level open_schema.Text _ _ (written_roll open_schema.Text) (once_roll open_schema.Text) (λ b after begun. (same_some b after begun, is_text (codes "string") refl))
 good_levels (open_schema.Record name es) =
     let fields : List Field = map (λ (e : ProvedField GoodField). e.0) es in
     good_level (open_schema.Record name fields) _ _ (written_roll (open_schema.Record name fields)) (once_roll (open_schema.Record name fields)) (record_good name es)
 good_levels (open_schema.Enum name ns) = good_level (open_schema.Enum name ns) _ _ (written_roll (open_schema.Enum name ns)) (once_roll (open_schema.Enum name ns))
     (λ b after begun. (let o = when_true (is_utf8 name && list_all is_utf8 ns) (one_name name) b after begun in let u = both_true (is_utf8 name) (list_all is_utf8 ns) o.0 in
-    good_named name (enum_written name ns) b after o.1 (built_enum (symbols ns) name, put_good (codes "symbols") (symbols ns) (named_keys (codes "enum") name) refl (symbols_good ns u.1) (keys_good (codes "enum") name (is_text (codes "enum") refl) u.0)) refl))
+    good_named name (enum_written name ns) b after o.1 (enum_is_good name ns u.0 u.1) refl))
 good_levels (open_schema.Array e element map) = good_level (open_schema.Array e.0 element map) _ _ (written_roll (open_schema.Array e.0 element map)) (once_roll (open_schema.Array e.0 element map))
     (λ b after begun. (let o = when_true (is_id element) (once e.0) b after begun in let r = e.1 b after o.1 in
-    (r.0, (built_array (written e.0 b).0 element map, map_good map _ (id_good (codes "element-id") element _ refl o.0 (put_good (codes "items") (written e.0 b).0 (type_key (codes "array")) refl r.1 (type_good (codes "array") (is_text (codes "array") refl))))))))
+    (r.0, array_is_good (written e.0 b).0 element map o.0 r.1)))
 good_levels (open_schema.Map e key value) = good_level (open_schema.Map e.0 key value) _ _ (written_roll (open_schema.Map e.0 key value)) (once_roll (open_schema.Map e.0 key value))
     (λ b after begun. (let o = when_true (is_id key && is_id value) (once e.0) b after begun in let ids = both_true (is_id key) (is_id value) o.0 in let r = e.1 b after o.1 in
-    (r.0, (built_map (written e.0 b).0 key value, id_good (codes "value-id") value _ refl ids.1 (id_good (codes "key-id") key _ refl ids.0 (put_good (codes "values") (written e.0 b).0 (type_key (codes "map")) refl r.1 (type_good (codes "map") (is_text (codes "map") refl))))))))
+    (r.0, map_is_good (written e.0 b).0 key value ids.0 ids.1 r.1)))
 good_levels (open_schema.Union es) =
     let branches : List Schema = map (λ (e : Proved GoodSchema). e.0) es in
     good_level (open_schema.Union branches) _ _ (written_roll (open_schema.Union branches)) (once_roll (open_schema.Union branches)) (λ b after begun. each_good written once GoodSchema (λ x q. q) es b after begun)
@@ -257,7 +282,7 @@ good_levels (open_schema.Fixed name size logical) = good_level (open_schema.Fixe
     let u = both_true (is_utf8 name) (is_logical logical && nat_lt size (2 ^ 64)) o.0 in
     let g = both_true (is_logical logical) (nat_lt size (2 ^ 64)) u.1 in
     good_named name (fixed_written name size logical) b after o.1
-    (built_fixed name size logical, logical_good logical _ g.0 (put_good (codes "size") (number (unsigned size)) (named_keys (codes "fixed") name) refl (ltb-true size (2 ^ 64) g.1) (keys_good (codes "fixed") name (is_text (codes "fixed") refl) u.0))) refl))
+    (fixed_is_good name size logical u.0 g.0 (ltb-true size (2 ^ 64) g.1)) refl))
 
 good_fields : (y : open_schema.Field-F (Proved GoodSchema) (ProvedField GoodField)) → GoodField (roll-Field (map-Field (Proved GoodSchema) (ProvedField GoodField) Schema Field (λ e. e.0) (λ e. e.0) y))
 good_fields y b after begun =
@@ -268,7 +293,7 @@ good_fields y b after begun =
     let is = written_field_roll x in (
       ap (λ (v : Writing Data). (v b).1) is ∙ r.0,
       subst (λ (v : Writing Data). Good (v b).0) (sym is)
-          (built_field y.name y.id (written y.schema.0 b).0, id_good (codes "field-id") y.id _ refl u.1 (put_good (codes "type") (written y.schema.0 b).0 (put (codes "name") (name_data y.name) no_members) refl r.1 (refl, text_of y.name u.0, tt))),
+          (field_is_good y.name y.id (written y.schema.0 b).0 u.0 u.1 r.1),
     )
 
 pub written_good : (s : Schema) → GoodSchema s

@@ -10,6 +10,8 @@ use std::alloc::{AllocError, Global};
 
 /// The JSON text of a schema, with no space. A named type has its full name and its namespace where it stands
 /// first, and is its full name alone from then on.
+///
+/// In a name that isn't UTF-8, U+FFFD stands for each part that is none. A schema that was read has no such name.
 pub fn write_schema(alloc: Global, schema: &Schema) -> Result<Vec<u8>, AllocError>
     ensures text { IfOk result (λ text. text.items ≡ schema_text schema.now) }
     // The text is read as that JSON.

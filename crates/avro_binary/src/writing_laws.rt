@@ -23,10 +23,13 @@ pub fn what_is_written_is_read()
     ensures grammar { (s : Shape) (d : Tree) (rest : List ℕ) → IsTrue (items_take_bytes s) → Fits s d → length (spelling d) < 2 ^ 63 → Reads s (spelling d ++ rest) d rest }
 {}
 
-/// The JSON of a schema is read as the schema, and so is its text, where no named type stands twice.
+/// The JSON of a schema is read as the schema, and so is its text, where no named type stands twice; and where the
+/// schema was read from a text, named types that stand again too.
 pub fn the_text_of_a_schema_is_read()
     ensures json { (s : Types) → IsTrue (has_text s) → schema_of (data_of s) ≡ Ok s }
     ensures text { (s : Types) → IsTrue (has_text s) → schema_from (schema_text s) ≡ Ok s }
+    ensures json_again { (bytes : List ℕ) (s : Types) → schema_from bytes ≡ Ok s → schema_of (data_of s) ≡ Ok s }
+    ensures text_again { (bytes : List ℕ) (s : Types) → schema_from bytes ≡ Ok s → schema_from (schema_text s) ≡ Ok s }
 {}
 
 /// A datum that is read is of the schema, so it can be written.

@@ -54,12 +54,13 @@ fn writes_schema(alloc: Global, text: &[u8], want: &[u8]) -> bool {
 }
 
 #[test]
-fn a_type_that_stands_again_is_written_by_its_name(rt: HostRuntime) {
+fn a_type_that_stands_again_is_written_by_its_name_and_read_again(rt: HostRuntime) {
     let text: &[u8] =
         b"{\"type\":\"record\",\"name\":\"n.r\",\"fields\":[{\"name\":\"a\",\"field-id\":1,\"type\":{\"type\":\"fixed\",\"name\":\"f\",\"size\":2}},{\"name\":\"b\",\"type\":\"f\"}]}";
     let want: &[u8] =
         b"{\"fields\":[{\"field-id\":1,\"name\":\"a\",\"type\":{\"name\":\"n.f\",\"namespace\":\"n\",\"size\":2,\"type\":\"fixed\"}},{\"name\":\"b\",\"type\":\"n.f\"}],\"name\":\"n.r\",\"namespace\":\"n\",\"type\":\"record\"}";
     assert!(rt; writes_schema(rt.alloc(), text, want));
+    assert!(rt; writes_schema(rt.alloc(), want, want));
 }
 
 #[test]

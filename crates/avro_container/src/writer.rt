@@ -1,4 +1,4 @@
-ghost use Rattle.std.specs.Prelude.{◌≡◌, ◌^◌, ◌<◌, IsTrue, IfOk, Ok, length};
+ghost use Rattle.std.specs.Prelude.{◌≡◌, ℕ, List, ◌^◌, ◌<◌, IsTrue, IfOk, Ok, length};
 ghost use Rattle.std.specs.List.{AllByRecursion};
 ghost use Rattle.avro_binary.specs.Shape.{shape};
 ghost use Rattle.avro_binary.specs.Spelling.{Fits, takes_bytes, items_take_bytes};
@@ -31,9 +31,12 @@ pub fn write_container(alloc: Global, container: &Container) -> Result<Blob, All
 }
 
 /// A container that is written is read again, where its schema is, and each datum and each item of an array takes
-/// bytes: a block counts no more datums than bytes. A schema is read again where no named type stands twice in it.
+/// bytes: a block counts no more datums than bytes. A schema is read again where no named type stands twice in it, and
+/// where it was read from a text itself.
 pub fn what_is_written_is_read()
     ensures once { (c : File) → AllByRecursion (Fits (shape c.schema)) c.datums → AreMeta c.meta → IsTrue (has_text c.schema)
+        → IsTrue (takes_bytes (shape c.schema)) → IsTrue (items_take_bytes (shape c.schema)) → length (container_text c) < 2 ^ 63 → container_of (container_text c) ≡ Ok c }
+    ensures again { (c : File) (text : List ℕ) → AllByRecursion (Fits (shape c.schema)) c.datums → AreMeta c.meta → schema_from text ≡ Ok c.schema
         → IsTrue (takes_bytes (shape c.schema)) → IsTrue (items_take_bytes (shape c.schema)) → length (container_text c) < 2 ^ 63 → container_of (container_text c) ≡ Ok c }
     ensures any { (c : File) → AllByRecursion (Fits (shape c.schema)) c.datums → AreMeta c.meta → schema_from (schema_text c.schema) ≡ Ok c.schema
         → IsTrue (takes_bytes (shape c.schema)) → IsTrue (items_take_bytes (shape c.schema)) → length (container_text c) < 2 ^ 63 → container_of (container_text c) ≡ Ok c }
