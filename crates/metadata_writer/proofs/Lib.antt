@@ -1,9 +1,13 @@
+pub mod CommitRead
 pub mod CurrentAfter
 pub mod Items
 pub mod Kept
 pub mod NewWithin
+pub mod OptionalAfter
 pub mod PlainAfter
 pub mod ReadAfter
+pub mod RefOrder
+pub mod RefsAfter
 pub mod StandAfter
 pub mod Texts
 pub mod Within
