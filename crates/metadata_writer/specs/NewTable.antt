@@ -1,9 +1,19 @@
 -- The JSON of a new table's metadata (Iceberg specification, "Table Metadata Fields"): one schema, one partition spec and
--- an empty sort order, and no snapshot.
-use Rattle.std.specs.Prelude.{pos, codes}
-use Rattle.serde_json.specs.Data.{Data, string, array, object, no_items, item, no_members}
+-- an empty sort order, and no snapshot. What is read of it again, where it is made of JSON that reads.
+use Rattle.std.specs.Prelude.{◌≡◌, ◌∷◌, [], None, Ok, pos, codes, true}
+use Rattle.serde_json.specs.Data.{Data, string, array, object, no_items, item, no_members, member}
 use Rattle.serde_json.specs.View.{view}
+use Rattle.row_values.specs.declared.partition.Spec.{Spec}
+use Rattle.row_values.specs.declared.schema.TableSchema.{TableSchema}
+use Rattle.table_metadata.specs.declared.properties.Properties.{Properties}
+use Rattle.table_metadata.specs.FieldIds.{field_ids_fit}
+use Rattle.table_metadata.specs.Metadata.{Parts}
+use Rattle.table_metadata.specs.Properties.{properties_of}
+use Rattle.table_metadata.specs.SchemaJson.{table_schema_of}
+use Rattle.table_metadata.specs.SpecJson.{spec_of}
+use Rattle.table_metadata.specs.TableKeys.{is_uuid, properties_shape}
 use Rattle.metadata_writer.specs.Commit.{with_key, long_data}
+use Rattle.metadata_writer.specs.Fitting.{IsInt, IsLong}
 use Rattle.metadata_writer.specs.declared.new_table.NewTable.{NewTable}
 
 abbrev pub one_item : Data → Data
@@ -43,3 +53,40 @@ order_keys t = with_key (codes "default-sort-order-id") (long_data (pos 0)) (wit
 
 unfoldable pub first_version : NewTable → Data
 first_version t = with_key (codes "properties") (view t.properties) (order_keys t)
+
+-- ---- what is read of it
+
+-- metadata of these properties alone
+abbrev pub only_properties : Data → Data
+only_properties properties = object (member (codes "properties") properties no_members)
+
+-- The JSON of the table reads as this schema, spec and properties, and the ids and the numbers fit.
+pub record IsMadeOf (schema : TableSchema) (spec : Spec) (properties : Properties) (t : NewTable) : Type 0 where
+  pub uuid : is_uuid t.uuid ≡ true
+  pub reads_schema : table_schema_of (view t.schema) ≡ Ok schema
+  pub id : t.schema_id ≡ schema.id
+  pub reads_spec : spec_of schema.columns (spec_data (view t.fields)) ≡ Ok spec
+  pub are_texts : properties_shape (only_properties (view t.properties)) ≡ Ok tt
+  pub reads_properties : properties_of (only_properties (view t.properties)) ≡ Ok properties
+  pub ids : field_ids_fit t.last_column t.last_partition (schema ∷ []) (spec ∷ []) ≡ Ok tt
+  pub last_column : IsInt t.last_column
+  pub last_partition : IsInt t.last_partition
+  pub created : IsLong t.created_ms
+
+abbrev pub first_parts : TableSchema → Spec → Properties → NewTable → Parts
+first_parts schema spec properties t = record {
+  format_version = 2;
+  location = t.location;
+  last_sequence = pos 0;
+  last_updated_ms = t.created_ms;
+  last_column = t.last_column;
+  schemas = schema ∷ [];
+  current_schema = t.schema_id;
+  specs = spec ∷ [];
+  default_spec = pos 0;
+  last_partition = t.last_partition;
+  properties = properties;
+  current_snapshot = None;
+  snapshots = [];
+  refs = [];
+}

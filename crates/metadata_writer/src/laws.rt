@@ -13,11 +13,15 @@ ghost use Rattle.table_metadata.specs.SchemaList.{schemas_of, specs_of};
 ghost use Rattle.table_metadata.specs.Snapshots.{snapshots_of};
 ghost use Rattle.table_metadata.specs.TableKeys.{current_ids_of, current_snapshot_of, plain_keys_of};
 ghost use Rattle.table_metadata.specs.References.{AreInOrder, is_main_name};
+ghost use Rattle.table_metadata.specs.SpecJson.{spec_of};
+ghost use Rattle.table_metadata.specs.declared.properties.Properties.{Properties};
+ghost use Rattle.row_values.specs.declared.partition.Spec.{Spec};
+ghost use Rattle.row_values.specs.declared.schema.Column.{Column};
 ghost use Rattle.row_values.specs.declared.schema.TableSchema.{TableSchema};
 ghost use Rattle.metadata_writer.specs.Fitting.{Fits, IsLong};
 ghost use Rattle.metadata_writer.specs.Commit.{after_snapshot, and_item, branch_data, items_in, log_line, object_in, snapshot_data, time_after};
 ghost use Rattle.metadata_writer.specs.Kept.{IsKept};
-ghost use Rattle.metadata_writer.specs.NewTable.{first_version};
+ghost use Rattle.metadata_writer.specs.NewTable.{IsMadeOf, first_parts, first_version, spec_data};
 ghost use Rattle.metadata_writer.specs.declared.new_table.NewTable.{NewTable};
 ghost use Rattle.metadata_writer.specs.PartsAfter.{CanFollow, parts_after};
 ghost use Rattle.metadata_writer.specs.Writable.{IsWritable};
@@ -83,6 +87,14 @@ pub fn a_commit_is_read()
 /// The first version of a table can be written where its parts have no float and nest less deep than a text may.
 pub fn the_first_version_can_be_written()
     ensures { (t : NewTable) → has_float (view t.schema) ≡ false → depth (view t.schema) ≤ 125 → has_float (view t.fields) ≡ false → depth (view t.fields) ≤ 124 → has_float (view t.properties) ≡ false → depth (view t.properties) ≤ 126 → IsWritable (first_version t) }
+{}
+
+/// What is read of the first version: the schema, the spec and the properties that its JSON reads as, and no snapshot. The
+/// fields of a spec that was read elsewhere are read as they were there, under the id 0.
+pub fn a_first_version_is_read()
+    ensures data { (schema : TableSchema) (spec : Spec) (properties : Properties) (t : NewTable) → IsMadeOf schema spec properties t → parts_of (first_version t) ≡ Ok (first_parts schema spec properties t) }
+    ensures text { (text : List ℕ) (schema : TableSchema) (spec : Spec) (properties : Properties) (t : NewTable) → IsMadeOf schema spec properties t → json_of text ≡ Ok (first_version t) → metadata_of text ≡ Ok (first_parts schema spec properties t) }
+    ensures spec { (columns : List Column) (d fields : Data) (spec : Spec) → spec_of columns d ≡ Ok spec → get (codes "fields") d ≡ Some fields → spec_of columns (spec_data fields) ≡ Ok (record { id = pos 0; fields = spec.fields }) }
 {}
 
 /// No needed key is absent after a commit, if none was before.
