@@ -3,9 +3,11 @@ use Rattle.std.proofs.Common.{◌≡◌, ℕ, ℤ, List, codes, Some, Ok, IsSome
 use Rattle.std.specs.Int.{int_max}
 use Rattle.serde_json.specs.Data.{Data, null, boolean, number, string, array, object}
 use Rattle.serde_json.specs.Find.{get, as_object}
+use Rattle.serde_json.specs.View.{view}
+use Rattle.table_metadata.specs.declared.metadata.Metadata.{Metadata}
 use Rattle.table_metadata.specs.declared.snapshots.Snapshot.{Snapshot}
 use Rattle.table_metadata.specs.Keys.{int_at, long_at, text_at, whole_of}
-use Rattle.table_metadata.specs.Metadata.{Parts, json_of, metadata_of, parts_of}
+use Rattle.table_metadata.specs.Metadata.{IsMetadataOf, Parts, json_of, metadata_of, parts, parts_of}
 use Rattle.table_metadata.specs.MissingKeys.{keys_stand, needs}
 use Rattle.table_metadata.specs.References.{AreInOrder}
 use Rattle.table_metadata.specs.TableKeys.{is_uuid, plain_keys_of, shape_if, shaped}
@@ -13,13 +15,15 @@ use Rattle.table_metadata.proofs.Coherence.{one_value, two_steps}
 use Rattle.table_metadata.proofs.PartsRead.{parts_read, readings_of}
 use Rattle.metadata_writer.specs.Commit.{after_snapshot, time_after}
 use Rattle.metadata_writer.specs.PartsAfter.{CanFollow, parts_after}
+use Rattle.metadata_writer.specs.Writable.{IsWritable}
 use Rattle.metadata_writer.proofs.OptionalAfter.{found, optional_keys-after_snapshot}
 use Rattle.metadata_writer.proofs.PlainAfter.{plain_keys-after_snapshot}
 use Rattle.metadata_writer.proofs.ReadAfter.{ids-after_snapshot, properties-after_snapshot, read_snapshots-after_snapshot, schemas-after_snapshot, specs-after_snapshot}
 use Rattle.metadata_writer.proofs.RefOrder.{parts_in_order}
 use Rattle.metadata_writer.proofs.RefsAfter.{listed_refs-after_snapshot, refs-after_snapshot_hold}
 use Rattle.metadata_writer.proofs.StandAfter.{keys_stand-after_snapshot}
-use Rattle.metadata_writer.proofs.Texts.{read_parts}
+use Rattle.metadata_writer.proofs.Texts.{read_parts, writable-read}
+use Rattle.metadata_writer.proofs.Within.{writable-after_snapshot}
 
 needs_object : (key : List ℕ) (d : Data) → needs key d ≡ Ok tt → IsSome (as_object d)
 needs_object key null h = cc
@@ -77,3 +81,12 @@ pub text-after_snapshot : (bytes text : List ℕ) (branch : List ℕ) (s : Snaps
 text-after_snapshot bytes text branch s writer now d p can j h k =
     let read : parts_of d ≡ Ok p = sym (read_parts bytes d j) ∙ h in
     read_parts text _ k ∙ parts-after_snapshot branch s writer now d p (parts_in_order bytes d p j read) can read
+
+-- what is written of metadata that was read
+pub committed_json : (bytes text branch : List ℕ) (s : Snapshot) (writer : List ℕ) (now : ℤ) (m : Metadata) (e : Data) → e ≡ after_snapshot branch s writer now (view m.json) → (IsWritable e → json_of text ≡ Ok e) → IsMetadataOf bytes m → json_of text ≡ Ok (after_snapshot branch s writer now (view m.json))
+committed_json bytes text branch s writer now m e h back is =
+    rw h at back (writable-after_snapshot branch s writer now (view m.json) (writable-read bytes (view m.json) is.json))
+
+pub committed_parts : (bytes text branch : List ℕ) (s : Snapshot) (writer : List ℕ) (now : ℤ) (m : Metadata) (e : Data) → e ≡ after_snapshot branch s writer now (view m.json) → (IsWritable e → json_of text ≡ Ok e) → IsMetadataOf bytes m → CanFollow s now (parts m) → metadata_of text ≡ Ok (parts_after branch s now (parts m))
+committed_parts bytes text branch s writer now m e h back is can =
+    text-after_snapshot bytes text branch s writer now (view m.json) (parts m) can is.json is.read (committed_json bytes text branch s writer now m e h back is)

@@ -12,7 +12,7 @@ mod new_table;
 mod tests;
 mod writing;
 
-pub use commit::with_snapshot;
+pub use commit::{text_with_snapshot, with_snapshot};
 pub use laws::{
     a_commit_can_be_written, a_commit_is_read, a_first_version_is_read, old_snapshots_stay,
     other_branches_leave_the_current_snapshot, other_keys_stay, other_refs_stay,
