@@ -2,6 +2,7 @@ pub mod CommitRead
 pub mod CurrentAfter
 pub mod Items
 pub mod Kept
+pub mod NewFits
 pub mod NewRead
 pub mod NewWithin
 pub mod OptionalAfter

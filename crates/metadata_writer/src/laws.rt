@@ -13,6 +13,8 @@ ghost use Rattle.table_metadata.specs.SchemaList.{schemas_of, specs_of};
 ghost use Rattle.table_metadata.specs.Snapshots.{snapshots_of};
 ghost use Rattle.table_metadata.specs.TableKeys.{current_ids_of, current_snapshot_of, plain_keys_of};
 ghost use Rattle.table_metadata.specs.References.{AreInOrder, is_main_name};
+ghost use Rattle.table_metadata.specs.FieldIds.{field_ids_fit, has_column_above, has_field_above};
+ghost use Rattle.table_metadata.specs.SoundSchema.{IsSoundSchema};
 ghost use Rattle.table_metadata.specs.SpecJson.{spec_of};
 ghost use Rattle.table_metadata.specs.declared.properties.Properties.{Properties};
 ghost use Rattle.row_values.specs.declared.partition.Spec.{Spec};
@@ -89,11 +91,13 @@ pub fn the_first_version_can_be_written()
     ensures { (t : NewTable) → has_float (view t.schema) ≡ false → depth (view t.schema) ≤ 125 → has_float (view t.fields) ≡ false → depth (view t.fields) ≤ 124 → has_float (view t.properties) ≡ false → depth (view t.properties) ≤ 126 → IsWritable (first_version t) }
 {}
 
-/// What is read of the first version: the schema, the spec and the properties that its JSON reads as, and no snapshot. The
-/// fields of a spec that was read elsewhere are read as they were there, under the id 0.
+/// What is read of the first version: the schema, the spec and the properties that its JSON reads as, and no snapshot. A
+/// sound schema needs only that no id is above the last one, and the fields of a spec that was read elsewhere are read as
+/// they were there, under the id 0.
 pub fn a_first_version_is_read()
     ensures data { (schema : TableSchema) (spec : Spec) (properties : Properties) (t : NewTable) → IsMadeOf schema spec properties t → parts_of (first_version t) ≡ Ok (first_parts schema spec properties t) }
     ensures text { (text : List ℕ) (schema : TableSchema) (spec : Spec) (properties : Properties) (t : NewTable) → IsMadeOf schema spec properties t → json_of text ≡ Ok (first_version t) → metadata_of text ≡ Ok (first_parts schema spec properties t) }
+    ensures ids { (last_column last_partition : ℤ) (schema : TableSchema) (spec : Spec) → IsSoundSchema schema → has_column_above last_column (schema ∷ []) ≡ false → has_field_above last_partition (spec ∷ []) ≡ false → field_ids_fit last_column last_partition (schema ∷ []) (spec ∷ []) ≡ Ok tt }
     ensures spec { (columns : List Column) (d fields : Data) (spec : Spec) → spec_of columns d ≡ Ok spec → get (codes "fields") d ≡ Some fields → spec_of columns (spec_data fields) ≡ Ok (record { id = pos 0; fields = spec.fields }) }
 {}
 
