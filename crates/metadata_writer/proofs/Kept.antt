@@ -7,8 +7,9 @@ use Rattle.serde_json.specs.Find.{get, as_object}
 use Rattle.serde_json.proofs.Views.{get_member-put, get_member-put_other}
 use Rattle.table_metadata.specs.declared.snapshots.Snapshot.{Snapshot}
 use Rattle.table_metadata.specs.Keys.{members_at}
+use Rattle.table_metadata.specs.References.{is_main_name}
 use Rattle.plain_types.specs.Steps.{by_option}
-use Rattle.metadata_writer.specs.Commit.{with_key, with_item, items_in, object_in, and_item, after_snapshot, branch_data, log_line, snapshot_data, with_snapshot_listed, refs_after, with_branch_on, with_current, with_change, is_main}
+use Rattle.metadata_writer.specs.Commit.{with_key, with_item, items_in, object_in, and_item, after_snapshot, branch_data, log_line, snapshot_data, with_snapshot_listed, refs_after, with_branch_on, with_current, with_change}
 use Rattle.metadata_writer.specs.Kept.{IsKept}
 
 -- ---- one edit
@@ -79,10 +80,10 @@ kept_if : (b : Bool) (q : List ℕ) (e d : Data) → (b ≡ true → get q e ≡
 kept_if true q e d h = h refl
 kept_if false q e d h = refl
 
-pub get-with_current : (q branch : List ℕ) (s : Snapshot) (d : Data) → (is_main branch ≡ true → q ≢ codes "current-snapshot-id") → (is_main branch ≡ true → q ≢ codes "snapshot-log") → get q (with_current branch s d) ≡ get q d
+pub get-with_current : (q branch : List ℕ) (s : Snapshot) (d : Data) → (is_main_name branch ≡ true → q ≢ codes "current-snapshot-id") → (is_main_name branch ≡ true → q ≢ codes "snapshot-log") → get q (with_current branch s d) ≡ get q d
 unfolding with_current
 get-with_current q branch s d current log =
-    kept_if (is_main branch) q _ d (λ e. get-with_item_other q (codes "snapshot-log") (log_line s) _ (log e) ∙ get-with_key_other q (codes "current-snapshot-id") _ d (current e))
+    kept_if (is_main_name branch) q _ d (λ e. get-with_item_other q (codes "snapshot-log") (log_line s) _ (log e) ∙ get-with_key_other q (codes "current-snapshot-id") _ d (current e))
 
 pub get-with_change : (q writer : List ℕ) (now : ℤ) (d : Data) → q ≢ codes "last-updated-ms" → q ≢ codes "dml-writer" → get q (with_change writer now d) ≡ get q d
 unfolding with_change

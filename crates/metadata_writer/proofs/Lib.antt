@@ -1,9 +1,15 @@
+pub mod CommitRead
 pub mod CurrentAfter
 pub mod Items
 pub mod Kept
+pub mod NewFits
+pub mod NewRead
 pub mod NewWithin
+pub mod OptionalAfter
 pub mod PlainAfter
 pub mod ReadAfter
+pub mod RefOrder
+pub mod RefsAfter
 pub mod StandAfter
 pub mod Texts
 pub mod Within

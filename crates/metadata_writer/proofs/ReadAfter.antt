@@ -29,7 +29,7 @@ same_specs : (d e : Data) (id : ℤ) (schemas : List TableSchema) → get (codes
 unfolding specs_of
 same_specs d e id schemas h = rw h refl
 
-same_properties : (d e : Data) → get (codes "properties") e ≡ get (codes "properties") d → properties_of e ≡ properties_of d
+pub same_properties : (d e : Data) → get (codes "properties") e ≡ get (codes "properties") d → properties_of e ≡ properties_of d
 unfolding properties_of retries_of least_to_merge_of
 same_properties d e h = rw h refl
 

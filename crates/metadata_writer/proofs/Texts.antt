@@ -47,7 +47,7 @@ pub writable-read : (bytes : List ℕ) (d : Data) → json_of bytes ≡ Ok d →
 unfolding json_of
 writable-read bytes d h = writable_at (is_utf8 bytes) (read bytes) d (λ e. depth-read bytes e) h
 
-read_parts : (bytes : List ℕ) (d : Data) → json_of bytes ≡ Ok d → metadata_of bytes ≡ parts_of d
+pub read_parts : (bytes : List ℕ) (d : Data) → json_of bytes ≡ Ok d → metadata_of bytes ≡ parts_of d
 unfolding metadata_of
 read_parts bytes d h = rw h refl
 

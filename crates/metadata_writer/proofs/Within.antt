@@ -7,8 +7,9 @@ use Rattle.serde_json.specs.Data.{Data, null, boolean, number, string, array, ob
 use Rattle.serde_json.specs.Find.{get, get_member, as_object, as_array}
 use Rattle.serde_json.specs.Written.{has_float, items_have_float, members_have_float}
 use Rattle.table_metadata.specs.declared.snapshots.Snapshot.{Snapshot}
+use Rattle.table_metadata.specs.References.{is_main_name}
 use Rattle.plain_types.specs.Steps.{by_option}
-use Rattle.metadata_writer.specs.Commit.{with_key, with_item, with_long, items_in, object_in, and_item, long_data, after_snapshot, branch_data, log_line, snapshot_data, needed_keys, number_keys, summary_data, with_snapshot_listed, refs_after, with_branch_on, with_current, with_change, is_main}
+use Rattle.metadata_writer.specs.Commit.{with_key, with_item, with_long, items_in, object_in, and_item, long_data, after_snapshot, branch_data, log_line, snapshot_data, needed_keys, number_keys, summary_data, with_snapshot_listed, refs_after, with_branch_on, with_current, with_change}
 use Rattle.metadata_writer.specs.Writable.{IsWritable}
 use Rattle.metadata_writer.proofs.Kept.{object-with_key, object-with_item}
 
@@ -216,7 +217,7 @@ either-within false n e d x y = y
 current-within : (n : ℕ) (branch : List ℕ) (s : Snapshot) (d : Data) → Within (suc (suc (suc n))) d → Within (suc (suc (suc n))) (with_current branch s d)
 unfolding with_current
 current-within n branch s d w =
-    either-within (is_main branch) (suc (suc (suc n))) _ d
+    either-within (is_main_name branch) (suc (suc (suc n))) _ d
     (with_item-within (suc n) (codes "snapshot-log") _ _ (log_line-within n s) (with_key-within (suc (suc n)) (codes "current-snapshot-id") _ d (long-within (suc (suc n)) s.id) w))
     w
 
@@ -239,7 +240,7 @@ either-object false e d x y = y
 pub current-object : (branch : List ℕ) (s : Snapshot) (d : Data) → IsSome (as_object d) → IsSome (as_object (with_current branch s d))
 unfolding with_current
 current-object branch s d is =
-    either-object (is_main branch) _ d (object-with_item (codes "snapshot-log") _ _ (object-with_key (codes "current-snapshot-id") _ d is)) is
+    either-object (is_main_name branch) _ d (object-with_item (codes "snapshot-log") _ _ (object-with_key (codes "current-snapshot-id") _ d is)) is
 
 after-object : (branch : List ℕ) (s : Snapshot) (writer : List ℕ) (now : ℤ) (d : Data) → IsSome (as_object d) → IsSome (as_object (after_snapshot branch s writer now d))
 unfolding after_snapshot with_change with_branch_on with_snapshot_listed

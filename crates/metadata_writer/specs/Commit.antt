@@ -1,12 +1,12 @@
 -- The JSON of a table's metadata after a snapshot is put on a branch (Iceberg specification, "Table Metadata Fields",
 -- "Snapshots" and "Snapshot References"), by edits of one key each.
-use Rattle.std.specs.Prelude.{ℕ, ℤ, nat_eq, codes, List, Bool, Option, Some, None, if◌then◌else◌}
-use Rattle.std.specs.Cmp.Lexicographic.{pointwise}
+use Rattle.std.specs.Prelude.{ℕ, ℤ, codes, List, Option, Some, None, if◌then◌else◌}
 use Rattle.std.specs.Int.{int_max}
 use Rattle.serde_json.specs.Data.{Data, number, string, array, object, Items, no_items, item, no_members, put}
 use Rattle.serde_json.specs.Find.{as_object, of_integer}
 use Rattle.table_metadata.specs.declared.snapshots.Snapshot.{Snapshot}
 use Rattle.table_metadata.specs.Keys.{long_at, items_at, members_at}
+use Rattle.table_metadata.specs.References.{is_main_name}
 use Rattle.plain_types.specs.Steps.{by_option}
 
 -- ---- edits
@@ -74,12 +74,9 @@ refs_after branch id refs = with_key branch (branch_data id (object_in branch re
 unfoldable pub with_branch_on : List ℕ → ℤ → Data → Data
 with_branch_on branch id d = with_key (codes "refs") (refs_after branch id (object_in (codes "refs") d)) d
 
-abbrev pub is_main : List ℕ → Bool
-is_main branch = pointwise nat_eq branch (codes "main")
-
 -- The head of `main` is the current snapshot, and is logged.
 unfoldable pub with_current : List ℕ → Snapshot → Data → Data
-with_current branch s d = if is_main branch then with_item (codes "snapshot-log") (log_line s) (with_key (codes "current-snapshot-id") (long_data s.id) d) else d
+with_current branch s d = if is_main_name branch then with_item (codes "snapshot-log") (log_line s) (with_key (codes "current-snapshot-id") (long_data s.id) d) else d
 
 -- the time of a change at this hour of the clock, which does not fall
 unfoldable pub time_after : ℤ → Data → ℤ

@@ -1,11 +1,15 @@
 //! The JSON of a table's metadata after a commit.
-ghost use Rattle.std.specs.Prelude.{◌≡◌, IfOk};
+ghost use Rattle.std.specs.Prelude.{◌≡◌, ℕ, List, IfOk, Ok};
 ghost use Rattle.serde_json.specs.View.{view};
+ghost use Rattle.table_metadata.specs.Metadata.{IsMetadataOf, json_of, metadata_of, parts};
+ghost use Rattle.metadata_writer.specs.PartsAfter.{CanFollow, parts_after};
 ghost use Rattle.metadata_writer.specs.Commit.{after_snapshot, branch_data, log_line, needed_keys, number_keys, refs_after, snapshot_data, summary_data, time_after, with_branch_on, with_change, with_current, with_snapshot_listed};
 
 use crate::edits::{
     empty_object, object_in, with_item, with_key, with_long, with_number, with_text,
 };
+use crate::writing::text;
+use plain_types::Bytes;
 use serde_json::Value;
 use std::alloc::{AllocError, Global};
 use table_metadata::{Metadata, Snapshot};
@@ -26,6 +30,22 @@ pub fn with_snapshot(
     let json = with_branch_on(alloc, json, branch, snapshot)?;
     let json = with_current(alloc, json, branch, snapshot)?;
     with_change(alloc, json, writer, now_ms)
+}
+
+/// The text of the metadata after the snapshot is put on the branch.
+pub fn text_with_snapshot(
+    alloc: Global,
+    metadata: &Metadata,
+    branch: &str,
+    snapshot: &Snapshot,
+    writer: &str,
+    now_ms: i64,
+) -> Result<Bytes, AllocError>
+    ensures json { IfOk result (λ text. (bytes : List ℕ) → IsMetadataOf bytes metadata.now → json_of text ≡ Ok (after_snapshot branch.now snapshot.now writer.now now_ms (view metadata.now.json))) }
+    ensures read { IfOk result (λ text. (bytes : List ℕ) → IsMetadataOf bytes metadata.now → CanFollow snapshot.now now_ms (parts metadata.now) → metadata_of text ≡ Ok (parts_after branch.now snapshot.now now_ms (parts metadata.now))) }
+{
+    let json = with_snapshot(alloc, metadata, branch, snapshot, writer, now_ms)?;
+    text(alloc, &json)
 }
 
 #[tactic(auto, unfolding(crate::specs::Commit::with_snapshot_listed))]

@@ -1,4 +1,4 @@
-use crate::{NewTable, first_version, metadata_text, text, with_snapshot};
+use crate::{NewTable, first_version, metadata_text, text, text_with_snapshot, with_snapshot};
 use plain_types::{Bytes, Text};
 use serde_json::{Value, json};
 use std::alloc::{AllocError, Global};
@@ -24,6 +24,11 @@ const TABLE: &str = r#"{
 "refs":{"audit":{"snapshot-id":5,"type":"branch","max-ref-age-ms":9},"main":{"snapshot-id":5,"type":"branch"}},
 "statistics":[]
 }"#;
+
+/// The line of the refs in it.
+const REFS: &str =
+    r#""refs":{"audit":{"snapshot-id":5,"type":"branch","max-ref-age-ms":9},"main":{"snapshot-id":5,"type":"branch"}},
+"#;
 
 /// What the snapshot 6 is.
 fn head(alloc: Global) -> Result<Snapshot, AllocError> {
@@ -124,6 +129,44 @@ fn what_is_committed_is_read(rt: HostRuntime) -> Result<(), Fail> {
     let bytes = text(rt.alloc(), &json)?;
     let metadata = read_metadata(rt.alloc(), bytes.as_slice())?;
     assert_eq!(rt; metadata.current_snapshot, Some(6));
+    Ok(())
+}
+
+/// The refs that are read after the snapshot is put on the branch of the same table, with the refs listed or not.
+fn refs_on(alloc: Global, branch: &str, listed: &str) -> Result<String, Fail> {
+    let (before, after) = TABLE.split_once(REFS).ok_or("the refs")?;
+    let table = format!(in alloc; "{before}{listed}{after}")?;
+    let metadata = read_metadata(alloc, table.as_bytes())?;
+    let snapshot = head(alloc)?;
+    let bytes = text_with_snapshot(
+        alloc,
+        &metadata,
+        branch,
+        &snapshot,
+        "r1-s-4w",
+        1600000000001,
+    )?;
+    let again = read_metadata(alloc, bytes.as_slice())?;
+    let mut told = String::new(alloc);
+    for reference in again.refs.as_slice() {
+        let text = format!(in alloc; "{} {},", reference.name.as_str(), reference.snapshot)?;
+        told.push_str(text.as_str())?;
+    }
+    Ok(told)
+}
+
+#[test]
+fn refs_are_read_again_with_the_implied_main(rt: HostRuntime) -> Result<(), Fail> {
+    for (branch, listed, wanted) in [
+        ("main", "", "main 6,"),
+        ("audit", "", "audit 6,main 5,"),
+        ("zone", "", "main 5,zone 6,"),
+        ("zone", REFS, "audit 5,main 5,zone 6,"),
+        ("main", REFS, "audit 5,main 6,"),
+    ] {
+        let refs = refs_on(rt.alloc(), branch, listed)?;
+        assert_eq!(rt; refs.as_str(), wanted, "on {branch}");
+    }
     Ok(())
 }
 

@@ -1,8 +1,9 @@
 -- Branches and tags (Iceberg specification, "Snapshot References"). Where `main` is not listed, it is the current snapshot
 -- as a branch. Refs stand in byte order of their names.
-use Rattle.std.specs.Prelude.{ℕ, suc, ℤ, not, nat_eq, codes, List, [], ◌∷◌, ◌++◌, Bool, true, false, Option, Result, Ok, Err, ⊤, if◌then◌else◌}
+use Rattle.std.specs.Prelude.{ℕ, suc, ℤ, not, nat_eq, codes, List, [], ◌∷◌, ◌++◌, map, Bool, true, false, Option, Result, Ok, Err, ⊤, if◌then◌else◌}
 use Rattle.std.specs.Ordering.{int_eq, nat_cmp, is_lt}
 use Rattle.std.specs.List.{list_any, insert}
+use Rattle.std.specs.List.Sorted.{IsStrictlySortedBy}
 use Rattle.std.specs.Cmp.Lexicographic.{pointwise, slice_cmp}
 use Rattle.serde_json.specs.Data.{Data, Members, no_members, member}
 use Rattle.table_metadata.specs.declared.metadata_fault.MetadataFault.{MetadataFault}
@@ -33,8 +34,11 @@ refs_from earlier (member name d ms) = ref_of name d >>= λ r. refs_from (earlie
 unfoldable pub listed_refs_of : Data → Result (List RefItem) MetadataFault
 listed_refs_of d = by_option (members_at (codes "refs") d) (refs_from []) (Ok [])
 
+abbrev pub is_main_name : List ℕ → Bool
+is_main_name name = pointwise nat_eq name (codes "main")
+
 abbrev pub is_main : RefItem → Bool
-is_main r = pointwise nat_eq r.name (codes "main")
+is_main r = is_main_name r.name
 
 abbrev pub lists_main : List RefItem → Bool
 lists_main refs = list_any is_main refs
@@ -50,6 +54,10 @@ before_main (r ∷ rs) = if is_before_main r then suc (before_main rs) else 0
 -- `main` as a branch on the current snapshot, where there is one, at its place among the refs
 unfoldable pub with_main : Option ℤ → List RefItem → List RefItem
 with_main current refs = by_option current (λ id. insert refs (before_main refs) (record { name = codes "main"; snapshot = id; tag = false })) refs
+
+-- The names ascend in byte order, each once.
+abbrev pub AreInOrder : List RefItem → Type 0
+AreInOrder refs = IsStrictlySortedBy (slice_cmp nat_cmp) (map (λ r. r.name) refs)
 
 -- all refs: those listed, and `main` where it is not among them
 unfoldable pub all_refs : Option ℤ → List RefItem → List RefItem
