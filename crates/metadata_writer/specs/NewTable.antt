@@ -1,6 +1,6 @@
 -- The JSON of a new table's metadata (Iceberg specification, "Table Metadata Fields"): one schema, one partition spec and
 -- an empty sort order, and no snapshot. What is read of it again, where it is made of JSON that reads.
-use Rattle.std.specs.Prelude.{◌≡◌, ◌∷◌, [], None, Ok, pos, codes, true}
+use Rattle.std.specs.Prelude.{◌≡◌, ◌∷◌, [], ℕ, ℤ, List, None, Ok, pos, codes, true}
 use Rattle.serde_json.specs.Data.{Data, string, array, object, no_items, item, no_members, member}
 use Rattle.serde_json.specs.View.{view}
 use Rattle.row_values.specs.declared.partition.Spec.{Spec}

@@ -31,7 +31,7 @@ pub struct NewTable {
 /// The metadata of the table's first version, which has no snapshot.
 #[tactic(auto, unfolding(crate::specs::NewTable::first_version))]
 pub fn first_version(alloc: Global, table: &NewTable) -> Result<Value, AllocError>
-    ensures { IfOk result (λ v. view v ≡ first_version table.now) }
+    ensures { IfOk result (λ v. view v ≡ first_version (made table.now)) }
 {
     let json = order_keys(alloc, table)?;
     with_key(alloc, json, "properties", table.properties.clone()?)
@@ -39,7 +39,7 @@ pub fn first_version(alloc: Global, table: &NewTable) -> Result<Value, AllocErro
 
 #[tactic(auto, unfolding(crate::specs::NewTable::version_keys))]
 fn version_keys(alloc: Global, table: &NewTable) -> Result<Value, AllocError>
-    ensures { IfOk result (λ v. view v ≡ version_keys table.now) }
+    ensures { IfOk result (λ v. view v ≡ version_keys (made table.now)) }
 {
     let json = with_int(alloc, empty_object(alloc), "format-version", &2)?;
     with_text(alloc, json, "table-uuid", table.uuid.as_str())
@@ -47,7 +47,7 @@ fn version_keys(alloc: Global, table: &NewTable) -> Result<Value, AllocError>
 
 #[tactic(auto, unfolding(crate::specs::NewTable::name_keys))]
 fn name_keys(alloc: Global, table: &NewTable) -> Result<Value, AllocError>
-    ensures { IfOk result (λ v. view v ≡ name_keys table.now) }
+    ensures { IfOk result (λ v. view v ≡ name_keys (made table.now)) }
 {
     let json = version_keys(alloc, table)?;
     with_text(alloc, json, "location", table.location.as_str())
@@ -55,7 +55,7 @@ fn name_keys(alloc: Global, table: &NewTable) -> Result<Value, AllocError>
 
 #[tactic(auto, unfolding(crate::specs::NewTable::time_keys))]
 fn time_keys(alloc: Global, table: &NewTable) -> Result<Value, AllocError>
-    ensures { IfOk result (λ v. view v ≡ time_keys table.now) }
+    ensures { IfOk result (λ v. view v ≡ time_keys (made table.now)) }
 {
     let json = name_keys(alloc, table)?;
     let json = with_int(alloc, json, "last-sequence-number", &0)?;
@@ -64,7 +64,7 @@ fn time_keys(alloc: Global, table: &NewTable) -> Result<Value, AllocError>
 
 #[tactic(auto, unfolding(crate::specs::NewTable::schema_list))]
 fn schema_list(alloc: Global, table: &NewTable) -> Result<Value, AllocError>
-    ensures { IfOk result (λ v. view v ≡ schema_list table.now) }
+    ensures { IfOk result (λ v. view v ≡ schema_list (made table.now)) }
 {
     let json = time_keys(alloc, table)?;
     let schemas = one_item(alloc, table.schema.clone()?)?;
@@ -73,7 +73,7 @@ fn schema_list(alloc: Global, table: &NewTable) -> Result<Value, AllocError>
 
 #[tactic(auto, unfolding(crate::specs::NewTable::schema_keys))]
 fn schema_keys(alloc: Global, table: &NewTable) -> Result<Value, AllocError>
-    ensures { IfOk result (λ v. view v ≡ schema_keys table.now) }
+    ensures { IfOk result (λ v. view v ≡ schema_keys (made table.now)) }
 {
     let json = schema_list(alloc, table)?;
     let json = with_int(alloc, json, "current-schema-id", &table.schema_id)?;
@@ -91,7 +91,7 @@ pub fn spec_json(alloc: Global, fields: Value) -> Result<Value, AllocError>
 
 #[tactic(auto, unfolding(crate::specs::NewTable::spec_list))]
 fn spec_list(alloc: Global, table: &NewTable) -> Result<Value, AllocError>
-    ensures { IfOk result (λ v. view v ≡ spec_list table.now) }
+    ensures { IfOk result (λ v. view v ≡ spec_list (made table.now)) }
 {
     let json = schema_keys(alloc, table)?;
     let spec = spec_json(alloc, table.fields.clone()?)?;
@@ -101,7 +101,7 @@ fn spec_list(alloc: Global, table: &NewTable) -> Result<Value, AllocError>
 
 #[tactic(auto, unfolding(crate::specs::NewTable::spec_keys))]
 fn spec_keys(alloc: Global, table: &NewTable) -> Result<Value, AllocError>
-    ensures { IfOk result (λ v. view v ≡ spec_keys table.now) }
+    ensures { IfOk result (λ v. view v ≡ spec_keys (made table.now)) }
 {
     let json = spec_list(alloc, table)?;
     let json = with_int(alloc, json, "default-spec-id", &0)?;
@@ -118,7 +118,7 @@ fn order_json(alloc: Global) -> Result<Value, AllocError>
 
 #[tactic(auto, unfolding(crate::specs::NewTable::order_keys))]
 fn order_keys(alloc: Global, table: &NewTable) -> Result<Value, AllocError>
-    ensures { IfOk result (λ v. view v ≡ order_keys table.now) }
+    ensures { IfOk result (λ v. view v ≡ order_keys (made table.now)) }
 {
     let json = spec_keys(alloc, table)?;
     let order = order_json(alloc)?;

@@ -1,3 +1,4 @@
 pub mod Definition
+pub mod FirstText
 pub mod Identifier
 pub mod LastIds

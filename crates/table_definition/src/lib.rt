@@ -6,5 +6,7 @@ mod definition;
 mod identifier;
 mod last_ids;
 mod nesting;
+mod new_table;
 
 pub use definition::{Definition, DefinitionFault, read_definition};
+pub use new_table::first_text;
