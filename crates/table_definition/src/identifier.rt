@@ -7,7 +7,11 @@ use std::alloc::{AllocError, Global};
 use uuid::Uuid;
 
 /// The text of the identifier of a table that is made at a location and a time.
-pub(crate) fn identifier_text(alloc: Global, location: &str, now_ms: i64) -> Result<Text, AllocError>
+pub(crate) fn identifier_text(
+    alloc: Global,
+    location: &str,
+    now_ms: i64,
+) -> Result<Text, AllocError>
     ensures { IfOk result (λ text. text ≡ identifier_text location.now now_ms) }
 {
     let name = name_text(alloc, location, now_ms)?;
