@@ -3,36 +3,44 @@ that writes the same bytes.
 
     python3 bench/writing.py         times and peak memory
 
-It makes a small repository in `bench/out/writing` of `bench/write_rows` and the crates under it, and builds it with `rt`,
-which proves them first: minutes, where nothing is kept.
+It makes a small repository in the folder of temporary files, of `bench/write_rows` and the crates under it, and builds it
+with `rt`, which proves them first: minutes, where nothing is kept. The files of `bench/write_rows` end in `.txt`, since `rt`
+allows no code of its own outside of `crates`.
 """
 
 import os
 import shutil
 import subprocess
 import sys
+import tempfile
 import time
 
 HERE = os.path.dirname(os.path.abspath(__file__))
 TOP = os.path.join(HERE, "..")
 OUT = os.path.join(HERE, "out")
-REPOSITORY = os.path.join(OUT, "writing")
+REPOSITORY = os.path.join(tempfile.gettempdir(), "bench_writing")
 CRATES = ["plain_types", "avro_binary", "avro_container"]
 PROGRAM = os.path.join(REPOSITORY, "crates", "write_rows", "out", "write_rows")
 PLAIN = os.path.join(OUT, "plain_writing")
 
 
+def copy(folder, crate):
+    """Copies a crate's files, without what was built, to the small repository."""
+    for part in ("src", "specs", "proofs", "must-fail"):
+        shutil.rmtree(os.path.join(REPOSITORY, "crates", crate, part), ignore_errors=True)
+    for at, folders, files in os.walk(folder):
+        folders[:] = [name for name in folders if name != "out"]
+        target = os.path.join(REPOSITORY, "crates", crate, os.path.relpath(at, folder))
+        os.makedirs(target, exist_ok=True)
+        for name in files:
+            shutil.copy2(os.path.join(at, name), os.path.join(target, name.removesuffix(".txt")))
+
+
 def build():
-    for crate, folder in [(name, os.path.join(TOP, "crates", name)) for name in CRATES] + [("write_rows", os.path.join(HERE, "write_rows"))]:
-        for part in os.listdir(folder):
-            if part != "out":
-                source, target = os.path.join(folder, part), os.path.join(REPOSITORY, "crates", crate, part)
-                if os.path.isdir(source):
-                    shutil.rmtree(target, ignore_errors=True)
-                    shutil.copytree(source, target)
-                else:
-                    os.makedirs(os.path.dirname(target), exist_ok=True)
-                    shutil.copy2(source, target)
+    os.makedirs(OUT, exist_ok=True)
+    for crate in CRATES:
+        copy(os.path.join(TOP, "crates", crate), crate)
+    copy(os.path.join(HERE, "write_rows"), "write_rows")
     with open(os.path.join(TOP, "crates.txt")) as text:
         lines = [line for line in text if line.split(":")[0] in CRATES]
     with open(os.path.join(REPOSITORY, "crates.txt"), "w") as text:
