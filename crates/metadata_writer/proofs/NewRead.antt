@@ -75,11 +75,11 @@ int_if true n m h = cc
 int_if false n m h = cc
 
 -- what is read under a key of 32 bits
-int_found : (o : Option ℤ) (n : ℤ) → option_and_then in_int o ≡ Some n → (o ≡ Some n) × IsInt n
+pub int_found : (o : Option ℤ) (n : ℤ) → option_and_then in_int o ≡ Some n → (o ≡ Some n) × IsInt n
 int_found None n h = cc
 int_found (Some m) n h = let e = int_if _ n m h in (ap Some e, subst (λ (k : ℤ). in_int k ≡ Some n) e h)
 
-found : {A E : Type 0} → (e : E) (o : Option A) (a : A) → or_fault e o ≡ Ok a → o ≡ Some a
+pub found : {A E : Type 0} → (e : E) (o : Option A) (a : A) → or_fault e o ≡ Ok a → o ≡ Some a
 found e None a h = cc
 found e (Some b) a h = cc
 
@@ -124,7 +124,7 @@ ids_of_new schema spec properties t m =
     let s = schema_id_read (t.schema) schema m.reads_schema in
     ids_at t (one_id (codes "schema-id") t.schema_id (t.schema) (s.0 ∙ ap Some (sym m.id))) (one_id (codes "spec-id") (pos 0) (spec_data (t.fields)) (spec_id (t.fields))) (subst IsInt (sym m.id) s.1) m.last_partition
 
-same_texts : (d e : Data) → get (codes "properties") e ≡ get (codes "properties") d → properties_shape e ≡ properties_shape d
+pub same_texts : (d e : Data) → get (codes "properties") e ≡ get (codes "properties") d → properties_shape e ≡ properties_shape d
 unfolding properties_shape
 same_texts d e h = rw h refl
 

@@ -25,7 +25,7 @@ record MembersWithin (n : ℕ) (ms : Members) : Type 0 where
   whole : members_have_float ms ≡ false
   nests : members_depth ms ≤ n
 
-abbrev FoundWithin : ℕ → Option Data → Type 0
+abbrev pub FoundWithin : ℕ → Option Data → Type 0
 FoundWithin n None = ⊤
 FoundWithin n (Some d) = Within n d
 
@@ -104,7 +104,7 @@ pub long-within : (n : ℕ) (z : ℤ) → Within n (long_data z)
 long-within n (pos m) = record { whole = refl; nests = omega arith }
 long-within n (negsuc m) = record { whole = refl; nests = omega arith }
 
-get-within : (n : ℕ) (k : List ℕ) (d : Data) → Within (suc n) d → FoundWithin n (get k d)
+pub get-within : (n : ℕ) (k : List ℕ) (d : Data) → Within (suc n) d → FoundWithin n (get k d)
 get-within n k null w = tt
 get-within n k (boolean b) w = tt
 get-within n k (number x) w = tt

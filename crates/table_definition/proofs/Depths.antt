@@ -1,5 +1,5 @@
 -- The greater of two depths.
-use Rattle.std.proofs.Common.{◌≡◌, ◌≢◌, ◌≤◌, ◌<◌, ℕ, nat_le, true, false, max, arith, true≢false, sym, ◌∙◌}
+use Rattle.std.proofs.Common.{◌≡◌, ℕ, nat_le, true, false, max, arith}
 use Rattle.std.proofs.lemmas.Bool.Decides.{nat_tests}
 
 pub max_above : (a b n : ℕ) → nat_le a n ≡ false → nat_le (max a b) n ≡ false

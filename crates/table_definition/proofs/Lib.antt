@@ -1,1 +1,4 @@
+pub mod AskedParts
 pub mod Depths
+pub mod FirstText
+pub mod LastIds

@@ -1,10 +1,10 @@
 -- What a schema file asks for: a JSON object with the schema of a table, and perhaps the fields of its partition spec and
 -- its properties, each in the form that a table's metadata has it (Iceberg specification, Appendix C, "Schemas", "Partition
 -- Specs" and "Table Metadata and Snapshots").
-use Rattle.std.specs.Prelude.{ℕ, not, nat_eq, nat_le, ◌||◌, pos, codes, List, Bool, true, false, Result, Ok, Err, if◌then◌else◌}
+use Rattle.std.specs.Prelude.{ℕ, not, nat_eq, nat_le, ◌||◌, codes, List, Bool, true, false, Result, Ok, Err, if◌then◌else◌}
 use Rattle.std.specs.Str.{is_utf8}
 use Rattle.std.specs.Cmp.Lexicographic.{pointwise}
-use Rattle.serde_json.specs.Data.{Data, Members, no_members, member, no_items, array, object, depth}
+use Rattle.serde_json.specs.Data.{Data, Members, no_members, member, no_items, array, depth}
 use Rattle.serde_json.specs.Find.{get, as_object}
 use Rattle.serde_json.specs.View.{view}
 use Rattle.row_values.specs.declared.schema.TableSchema.{TableSchema}

@@ -1,9 +1,8 @@
 -- The first version of a table that is made as a schema file asks (Iceberg specification, "Table Metadata Fields").
-use Rattle.std.specs.Prelude.{ℕ, ℤ, pos, codes, List}
+use Rattle.std.specs.Prelude.{ℕ, ℤ, codes, List}
 use Rattle.serde_json.specs.Data.{Data, null, object, no_members}
 use Rattle.serde_json.specs.Find.{get}
 use Rattle.serde_json.specs.Written.{compact_text}
-use Rattle.row_values.specs.declared.partition.Spec.{Spec}
 use Rattle.plain_types.specs.Steps.{by_option}
 use Rattle.table_metadata.specs.Metadata.{Parts}
 use Rattle.metadata_writer.specs.NewTable.{Made, first_parts, first_version}

@@ -1,5 +1,6 @@
 // The identifier of a new table.
-ghost use Rattle.std.specs.Prelude.{◌≡◌, IfOk, string_bytes};
+ghost use Rattle.std.specs.Prelude.{◌≡◌, true, IfOk, string_bytes};
+ghost use Rattle.table_metadata.specs.TableKeys.{is_uuid};
 ghost use Rattle.table_definition.specs.Identifier.{identifier_of, identifier_text, name_text};
 
 use plain_types::Text;
@@ -12,7 +13,8 @@ pub(crate) fn identifier_text(
     location: &str,
     now_ms: i64,
 ) -> Result<Text, AllocError>
-    ensures { IfOk result (λ text. text ≡ identifier_text location.now now_ms) }
+    ensures text { IfOk result (λ text. text ≡ identifier_text location.now now_ms) }
+    ensures uuid { IfOk result (λ text. is_uuid text ≡ true) }
 {
     let name = name_text(alloc, location, now_ms)?;
     let identifier = identifier_of(name.as_bytes());

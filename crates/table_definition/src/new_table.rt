@@ -1,7 +1,9 @@
 // The metadata of a new table.
-ghost use Rattle.std.specs.Prelude.{◌≡◌, ℕ, List, IfOk, Ok};
+ghost use Rattle.std.specs.Prelude.{◌≡◌, ℕ, true, List, IfOk, Ok};
 ghost use Rattle.serde_json.specs.View.{view};
 ghost use Rattle.table_metadata.specs.Metadata.{metadata_of};
+ghost use Rattle.table_metadata.specs.TableKeys.{is_uuid};
+ghost use Rattle.metadata_writer.specs.Fitting.{IsInt};
 ghost use Rattle.metadata_writer.specs.NewTable.{made};
 ghost use Rattle.table_definition.specs.Definition.{asked, definition_of};
 ghost use Rattle.table_definition.specs.FirstText.{first_text, made_of, parts_made, properties_json, schema_json};
@@ -37,7 +39,10 @@ fn new_table(
     location: &str,
     now_ms: i64,
 ) -> Result<NewTable, AllocError>
-    ensures { IfOk result (λ table. made table ≡ made_of location.now now_ms (asked definition.now)) }
+    ensures made { IfOk result (λ table. made table ≡ made_of location.now now_ms (asked definition.now)) }
+    ensures uuid { IfOk result (λ table. is_uuid table.uuid ≡ true) }
+    ensures last_column { IfOk result (λ table. IsInt table.last_column) }
+    ensures last_partition { IfOk result (λ table. IsInt table.last_partition) }
 {
     Ok(NewTable {
         location: Text::copy_of(alloc, location)?,

@@ -1,0 +1,117 @@
+use crate::{DefinitionFault, first_text, read_definition};
+use plain_types::Bytes;
+use std::alloc::{AllocError, Global};
+use std::process::Abort;
+use std::test::Fail;
+
+const SMALL: &str =
+    r#"{"schema":{"schema-id":0,"fields":[{"id":1,"name":"x","required":true,"type":"long"}]}}"#;
+
+const WHOLE: &str = r#"{
+"schema":{"type":"struct","schema-id":3,"fields":[
+{"id":7,"name":"at","required":false,"type":"timestamptz"},
+{"id":2,"name":"key","required":true,"type":"long","doc":"k"}]},
+"partition-spec":[
+{"source-id":7,"field-id":1001,"name":"day","transform":"day"},
+{"source-id":2,"field-id":1000,"name":"part","transform":"bucket[16]"}],
+"properties":{"write.delete.mode":"merge-on-read","owner":"o"}
+}"#;
+
+/// Why the bytes are no schema file, if they are none.
+fn fault_of(alloc: Global, bytes: &[u8]) -> Option<DefinitionFault> {
+    match read_definition(alloc, bytes) {
+        Ok(_definition) => None,
+        Err(fault) => Some(fault),
+    }
+}
+
+/// The small file with something more at the end of its object.
+fn with_more(alloc: Global, more: &str) -> Result<String, Fail> {
+    let front = SMALL.strip_suffix("}").ok_or("an object")?;
+    let text = format!(in alloc; "{front}{more}}}")?;
+    Ok(text)
+}
+
+#[test]
+fn files_in_another_form_are_refused(rt: HostRuntime) -> Result<(), Fail> {
+    let bad = Some(DefinitionFault::Schema);
+    for (more, wanted) in [
+        ("", None),
+        (r#","properties":{"owner":"o"}"#, None),
+        (r#","partition-spec":[]"#, None),
+        ("}", bad),
+        (r#","location":"s3://warehouse/t""#, bad),
+        (r#","partition-spec":{}"#, bad),
+        (r#","properties":{"owner":1}"#, bad),
+        (r#","properties":null"#, bad),
+        (
+            r#","partition-spec":[{"source-id":1,"field-id":1000,"name":"x","transform":"identity","width":1.5}]"#,
+            bad,
+        ),
+        (
+            r#","partition-spec":[{"source-id":2,"field-id":1000,"name":"x","transform":"identity"}]"#,
+            bad,
+        ),
+    ] {
+        let text = with_more(rt.alloc(), more)?;
+        assert_eq!(rt;
+            fault_of(rt.alloc(), text.as_bytes()),
+            wanted,
+            "with {more}"
+        );
+    }
+    for text in ["", "{", "[]", "{}", r#"{"schema":{}}"#] {
+        assert_eq!(rt; fault_of(rt.alloc(), text.as_bytes()), bad, "{text}");
+    }
+    assert_eq!(rt;
+        fault_of(rt.alloc(), &[b'{', 255, b'}']),
+        Some(DefinitionFault::Text)
+    );
+    Ok(())
+}
+
+/// A file that nests so many levels deep, and two more.
+fn nested(alloc: Global, levels: usize) -> Result<String, AllocError> {
+    let open = "[".repeat(alloc, levels)?;
+    let close = "]".repeat(alloc, levels)?;
+    format!(in alloc;
+        r#"{{"schema":{{"schema-id":0,"doc":{open}{close},"fields":[{{"id":1,"name":"x","required":true,"type":"long"}}]}}}}"#
+    )
+}
+
+#[test]
+fn a_file_nests_125_levels_at_most(rt: HostRuntime) -> Result<(), Fail> {
+    for (levels, wanted) in [(123, None), (124, Some(DefinitionFault::Schema))] {
+        let text = nested(rt.alloc(), levels)?;
+        assert_eq!(rt;
+            fault_of(rt.alloc(), text.as_bytes()),
+            wanted,
+            "{levels} levels"
+        );
+    }
+    Ok(())
+}
+
+fn text_of(alloc: Global, file: &str) -> Result<Bytes, Fail> {
+    let definition = read_definition(alloc, file.as_bytes())?;
+    let text = first_text(alloc, &definition, "h", 1700000000000)?;
+    Ok(text)
+}
+
+#[test]
+fn the_first_version_is_written(rt: HostRuntime) -> Result<(), Fail> {
+    for (file, wanted) in [
+        (
+            SMALL,
+            r#"{"current-schema-id":0,"default-sort-order-id":0,"default-spec-id":0,"format-version":2,"last-column-id":1,"last-partition-id":999,"last-sequence-number":0,"last-updated-ms":1700000000000,"location":"h","partition-specs":[{"fields":[],"spec-id":0}],"properties":{},"schemas":[{"fields":[{"id":1,"name":"x","required":true,"type":"long"}],"schema-id":0}],"sort-orders":[{"fields":[],"order-id":0}],"table-uuid":"29ac0894-7884-5831-8a36-17e914394540"}"#,
+        ),
+        (
+            WHOLE,
+            r#"{"current-schema-id":3,"default-sort-order-id":0,"default-spec-id":0,"format-version":2,"last-column-id":7,"last-partition-id":1001,"last-sequence-number":0,"last-updated-ms":1700000000000,"location":"h","partition-specs":[{"fields":[{"field-id":1001,"name":"day","source-id":7,"transform":"day"},{"field-id":1000,"name":"part","source-id":2,"transform":"bucket[16]"}],"spec-id":0}],"properties":{"owner":"o","write.delete.mode":"merge-on-read"},"schemas":[{"fields":[{"id":7,"name":"at","required":false,"type":"timestamptz"},{"doc":"k","id":2,"name":"key","required":true,"type":"long"}],"schema-id":3,"type":"struct"}],"sort-orders":[{"fields":[],"order-id":0}],"table-uuid":"29ac0894-7884-5831-8a36-17e914394540"}"#,
+        ),
+    ] {
+        let text = text_of(rt.alloc(), file)?;
+        assert_eq!(rt; text.as_slice(), wanted.as_bytes());
+    }
+    Ok(())
+}
