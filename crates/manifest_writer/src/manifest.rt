@@ -1,5 +1,5 @@
 //! Manifests.
-ghost use Rattle.std.specs.Prelude.{◌≡◌, [], IfOk};
+ghost use Rattle.std.specs.Prelude.{◌≡◌, IfOk};
 ghost use Rattle.std.specs.List.{AllByRecursion};
 ghost use Rattle.manifest_writer.specs.EntryDatum.{manifest_text, IsEntry};
 
@@ -11,21 +11,20 @@ use plain_types::{Bytes, List};
 use row_values::{Spec, TableSchema};
 use std::alloc::{AllocError, Global};
 
-/// The bytes of the manifest of these entries of an unpartitioned table, without their statistics. An added entry's
-/// sequence numbers are null, since it takes those of the manifest's row.
+/// The bytes of the manifest of these entries. An added entry's sequence numbers are null, since it takes those of the
+/// manifest's row.
 pub fn write_manifest(
     alloc: Global,
     entries: &[Entry],
-    _spec: &Spec,
-    _schema: &TableSchema,
+    spec: &Spec,
+    schema: &TableSchema,
 ) -> Result<Bytes, AllocError>
-    requires { _spec.now.fields ≡ [] }
-    ensures text { IfOk result (λ bytes. bytes ≡ manifest_text entries.now) }
+    ensures text { IfOk result (λ bytes. bytes ≡ manifest_text entries.now spec.now schema.now) }
     ensures entries { IfOk result (λ bytes. AllByRecursion IsEntry entries.now) }
 {
-    let datums = datums_of_entries(alloc, entries)?;
+    let datums = datums_of_entries(alloc, spec, schema, entries)?;
     let container = Container {
-        schema: entry_schema(alloc)?,
+        schema: entry_schema(alloc, spec, schema)?,
         meta: List::from_vec(Vec::new(alloc)),
         datums: List::from_vec(datums),
     };

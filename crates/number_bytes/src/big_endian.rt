@@ -99,6 +99,13 @@ fn size_of(number: i128) -> u128
     }
 }
 
+/// The fewest bytes that the number takes.
+pub fn byte_count(number: i128) -> usize
+    ensures { result ≡ byte_count number }
+{
+    count_up_to(15, size_of(number))
+}
+
 /// Appends the number in so many bytes of big-endian two's complement. One that takes more loses the highest.
 pub fn write_signed_in(count: usize, number: i128, out: &mut Vec<u8>) -> Result<(), AllocError>
     ensures { OnOk result (out.new.items ≡ out.old.items ++ bytes_in count number) }
@@ -110,5 +117,5 @@ pub fn write_signed_in(count: usize, number: i128, out: &mut Vec<u8>) -> Result<
 pub fn write_signed(number: i128, out: &mut Vec<u8>) -> Result<(), AllocError>
     ensures { OnOk result (out.new.items ≡ out.old.items ++ signed_bytes number) }
 {
-    write_signed_in(count_up_to(15, size_of(number)), number, out)
+    write_signed_in(byte_count(number), number, out)
 }

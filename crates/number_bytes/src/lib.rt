@@ -8,6 +8,6 @@ mod little_endian;
 #[cfg(test)]
 mod tests;
 
-pub use big_endian::{signed_of, write_signed, write_signed_in};
+pub use big_endian::{byte_count, signed_of, write_signed, write_signed_in};
 pub use laws::a_written_number_is_read_again;
 pub use little_endian::{int_of, long_of, write_int, write_long};

@@ -11,4 +11,4 @@ use Rattle.manifest_writer.proofs.manifest.write_manifest.Goals as goal
 pub write_container-requires-clause-datums : goal.write_container-requires-clause-datums
 write_container-requires-clause-datums c =
     subst (λ (s : Schema). AllByRecursion (Fits (shape s)) c.from_vec-2.result) (sym c.in_ok-entry_schema.ensures)
-    (subst (λ (ds : List Datum). AllByRecursion (Fits (shape entry_types)) ds) (sym (c.from_vec-2.ensures ∙ c.in_ok-datums.ensures.same)) (entries_fit _ c.in_ok-datums.ensures.range))
+    (subst (λ (ds : List Datum). AllByRecursion (Fits (shape (entry_types c.args.spec.now c.args.schema.now))) ds) (sym (c.from_vec-2.ensures ∙ c.in_ok-datums.ensures.same)) (entries_fit c.args.spec.now c.args.schema.now _ c.in_ok-datums.ensures.range))
