@@ -54,7 +54,8 @@ use Rattle.manifest_writer.proofs.EntryFits.{spec_plans, entry_types_is, entries
 use Rattle.manifest_writer.proofs.EntryPlaces.{file_found, entry_found, entry_places_is}
 use Rattle.manifest_writer.proofs.EntryText.{entry_has_text, entry_takes_bytes, entry_items_take_bytes}
 use Rattle.manifest_writer.proofs.KnownKinds.{known_kinds}
-use Rattle.manifest_writer.proofs.ListLaws.{no_meta}
+use Rattle.manifest_writer.specs.ManifestMeta.{manifest_meta}
+use Rattle.manifest_writer.proofs.ManifestMetas.{are_meta}
 use Rattle.manifest_writer.proofs.ValueLaws.{values_is, record_there, array_out, array_there, null_absent, text_out, branch, text_again, int_again, long_again, optional_long_again}
 use Rattle.avro_binary.specs.declared.datum.Datum.TheOpen as open_datum
 
@@ -231,7 +232,7 @@ entries_again row spec schema earlier (entry ∷ entries) (fits, others) kinds h
 -- ---- the manifest
 
 abbrev file : List Entry → Spec → TableSchema → Container
-file entries spec schema = record { schema = entry_types spec schema; meta = []; datums = map (datum_of_entry spec schema) entries }
+file entries spec schema = record { schema = entry_types spec schema; meta = manifest_meta entries spec schema; datums = map (datum_of_entry spec schema) entries }
 
 places_found : (spec : Spec) (schema : TableSchema) → IsWritableSpec spec schema → entry_places schema.columns spec.fields (fields_of (entry_types spec schema)) ≡ Ok (entry_found (found_parts spec schema))
 places_found spec schema writable = ap (λ (s : Schema). entry_places schema.columns spec.fields (fields_of s)) (sym (entry_types_is spec schema)) ∙ entry_places_is schema.columns spec.fields (spec_plans spec schema) (found_parts spec schema) (all_found schema.columns (are_names spec.fields) spec.fields writable.apart)
@@ -239,6 +240,6 @@ places_found spec schema writable = ap (λ (s : Schema). entry_places schema.col
 pub manifest_again : (entries : List Entry) (spec : Spec) (schema : TableSchema) (row : ManifestRow) → AllByRecursion IsEntry entries → CanBeWritten entries spec schema → length (manifest_text entries spec schema) < 2 ^ 63 → entries_of (manifest_text entries spec schema) row spec schema ≡ Ok (map (as_read row) entries)
 unfolding entries_of
 manifest_again entries spec schema row fits can short =
-    let read : container_of (manifest_text entries spec schema) ≡ Ok (file entries spec schema) = text_read_again (file entries spec schema) (entries_fit spec schema entries fits) no_meta (schema_read (entry_types spec schema) (entry_has_text spec schema can.kinds can.fields)) (entry_takes_bytes spec schema) (entry_items_take_bytes spec schema) short in
+    let read : container_of (manifest_text entries spec schema) ≡ Ok (file entries spec schema) = text_read_again (file entries spec schema) (entries_fit spec schema entries fits) (are_meta entries spec schema) (schema_read (entry_types spec schema) (entry_has_text spec schema can.kinds can.fields)) (entry_takes_bytes spec schema) (entry_items_take_bytes spec schema) short in
     goes (fault_as fault.Container (container_of (manifest_text entries spec schema))) _ (file entries spec schema) _ (ap (fault_as fault.Container) read)
     (goes (entry_places schema.columns spec.fields (fields_of (entry_types spec schema))) _ (entry_found (found_parts spec schema)) _ (places_found spec schema can.fields) (entries_again row spec schema [] entries fits can.kinds can.each))

@@ -9,6 +9,7 @@ pub mod KnownKinds
 pub mod ListFits
 pub mod ListLaws
 pub mod ListPlaces
+pub mod ManifestMetas
 pub mod PartFits
 pub mod PartLaws
 pub mod PartPlans

@@ -15,6 +15,7 @@ use Rattle.column_bounds.specs.declared.stats.ColumnStats.{ColumnStats}
 use Rattle.manifest_writer.specs.declared.fact.Fact.TheVariants as fact
 use Rattle.manifest_writer.specs.EntryTypes.{entry_types}
 use Rattle.manifest_writer.specs.Facts.{fact_value, HasIds}
+use Rattle.manifest_writer.specs.ManifestMeta.{manifest_meta}
 use Rattle.manifest_writer.specs.PartDatum.{part_datums}
 use Rattle.manifest_writer.specs.Value.{optional, optional_long, optional_text, AreSignedOf, AreUtf8, count_number}
 
@@ -55,7 +56,7 @@ datum_of_entry spec schema entry = datum.Record (number_values entry ++ datum.Re
 
 -- the bytes of the manifest of these entries
 abbrev pub manifest_text : List Entry → Spec → TableSchema → List ℕ
-manifest_text entries spec schema = container_text (record { schema = entry_types spec schema; meta = []; datums = map (datum_of_entry spec schema) entries })
+manifest_text entries spec schema = container_text (record { schema = entry_types spec schema; meta = manifest_meta entries spec schema; datums = map (datum_of_entry spec schema) entries })
 
 -- ---- entries that can be written
 

@@ -4,6 +4,7 @@ pub mod Facts
 pub mod Field
 pub mod ListDatum
 pub mod ListTypes
+pub mod ManifestMeta
 pub mod PartDatum
 pub mod PartNames
 pub mod PartTypes

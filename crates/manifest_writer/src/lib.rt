@@ -12,6 +12,7 @@ mod list;
 mod list_datum;
 mod list_schema;
 mod manifest;
+mod manifest_meta;
 mod part_datum;
 mod part_names;
 mod part_schema;

@@ -5,14 +5,16 @@ ghost use Rattle.manifest_writer.specs.EntryDatum.{manifest_text, IsEntry};
 
 use crate::entry_datum::datums_of_entries;
 use crate::entry_schema::entry_schema;
+use crate::manifest_meta::manifest_meta;
 use avro_container::{Container, write_container};
 use manifest_files::Entry;
 use plain_types::{Bytes, List};
 use row_values::{Spec, TableSchema};
 use std::alloc::{AllocError, Global};
 
-/// The bytes of the manifest of these entries. An added entry's sequence numbers are null, since it takes those of the
-/// manifest's row.
+/// The bytes of the manifest of these entries, of data files or of delete files as the first. An added entry's sequence
+/// numbers are null, since it takes those of the manifest's row; a partition value that is none of its field's kind is
+/// null, too.
 pub fn write_manifest(
     alloc: Global,
     entries: &[Entry],
@@ -25,7 +27,7 @@ pub fn write_manifest(
     let datums = datums_of_entries(alloc, spec, schema, entries)?;
     let container = Container {
         schema: entry_schema(alloc, spec, schema)?,
-        meta: List::from_vec(Vec::new(alloc)),
+        meta: List::from_vec(manifest_meta(alloc, entries, spec, schema)?),
         datums: List::from_vec(datums),
     };
     write_container(alloc, &container)
