@@ -9,5 +9,5 @@ mod little_endian;
 mod tests;
 
 pub use big_endian::{byte_count, signed_of, write_signed, write_signed_in};
-pub use laws::a_written_number_is_read_again;
+pub use laws::{a_written_number_is_read_again, written_bytes_are_the_fewest};
 pub use little_endian::{int_of, long_of, write_int, write_long};
