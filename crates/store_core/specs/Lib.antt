@@ -1,6 +1,8 @@
 pub mod Answers
 pub mod Files
+pub mod Given
 pub mod Memory
+pub mod MemoryInputs
 pub mod MemorySink
 pub mod MemoryStore
 pub mod Names

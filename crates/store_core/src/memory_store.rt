@@ -231,7 +231,7 @@ fn planned_leave(plan: &[FailAt], kind: CallKind, nth: u64) -> Option<Leave>
 }
 
 // What the files have under a name.
-fn find<'a>(files: &'a [File], name: &str) -> Option<&'a Blob>
+pub(crate) fn find<'a>(files: &'a [File], name: &str) -> Option<&'a Blob>
     ensures { option_copied result ≡ map.get (files_of files.now) name.now }
 {
     first_named(files, name)

@@ -1,6 +1,7 @@
 use crate::{
-    Blob, CallKind, FailAt, File, Leave, List, MemorySink, MemoryStore, Name, ReadAnswer, Sink,
-    Store, StoreFault, SwapAnswer, write_all,
+    Blob, CallKind, Clock, FailAt, File, FixedClock, InputAnswer, Inputs, IoFault, Leave, List,
+    MemoryInputs, MemorySink, MemoryStore, Name, ReadAnswer, Sink, Store, StoreFault, SwapAnswer,
+    write_all,
 };
 use std::alloc::{AllocError, Global};
 use std::process::Abort;
@@ -80,6 +81,25 @@ fn a_planned_call_fails_and_leaves_what_was_planned(rt: HostRuntime) -> Result<(
         assert_eq!(rt; store.swap(alloc, "v", b"byte"), Err(StoreFault::Failed));
         holds(&rt, store.read(alloc, "v"), wanted);
     }
+    Ok(())
+}
+
+fn gives(answer: Result<InputAnswer, IoFault>, wanted: &[u8]) -> bool {
+    match answer {
+        Ok(InputAnswer::Found(bytes)) => bytes.as_slice() == wanted,
+        _ => false,
+    }
+}
+
+#[test]
+fn an_input_is_read_unless_it_is_too_long(rt: HostRuntime) -> Result<(), Fail> {
+    let alloc = rt.alloc();
+    let mut inputs = MemoryInputs::with_files(files(alloc)?, 4);
+    assert!(rt; gives(inputs.read(alloc, "a", 5), b"first"));
+    assert!(rt; matches!(inputs.read(alloc, "a", 4), Ok(InputAnswer::TooLong)));
+    assert!(rt; matches!(inputs.read(alloc, "c", 4), Ok(InputAnswer::Missing)));
+    assert!(rt; matches!(inputs.read(alloc, "a", 5), Err(IoFault::Failed)));
+    assert_eq!(rt; FixedClock::at(7).now_ms(), 7);
     Ok(())
 }
 
