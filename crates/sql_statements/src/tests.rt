@@ -229,7 +229,12 @@ fn plain_cases(alloc: Global, cases: &mut List<Case>) -> Result<(), AllocError> 
     cases.push(leaves(
         "an insert adds its row",
         insert(alloc, Value::Int(3), Value::Null)?,
-        &[[Some(1), Some(10)], [Some(2), Some(20)], [Some(4), None], [Some(3), None]],
+        &[
+            [Some(1), Some(10)],
+            [Some(2), Some(20)],
+            [Some(4), None],
+            [Some(3), None],
+        ],
     ))?;
     cases.push(refuses(
         "an insert of NULL into a required column",
@@ -274,7 +279,10 @@ fn insert_row(alloc: Global, condition: Pred) -> Result<Clause, AllocError> {
 
 fn upsert(alloc: Global) -> Result<Statement, AllocError> {
     let update = update_n(alloc)?;
-    merge(alloc, two(alloc, update, insert_row(alloc, Pred::Const(true))?)?)
+    merge(
+        alloc,
+        two(alloc, update, insert_row(alloc, Pred::Const(true))?)?,
+    )
 }
 
 /// WHEN MATCHED AND source.n = 5 THEN DELETE WHEN MATCHED THEN UPDATE SET n = source.n.
@@ -299,7 +307,10 @@ fn merge_to_null(alloc: Global) -> Result<Statement, AllocError> {
 
 /// WHEN NOT MATCHED AND source.n = 30 THEN INSERT (source.key, source.n).
 fn insert_where(alloc: Global) -> Result<Statement, AllocError> {
-    merge(alloc, one(alloc, insert_row(alloc, is_number(Op::Equal, 3, 30))?)?)
+    merge(
+        alloc,
+        one(alloc, insert_row(alloc, is_number(Op::Equal, 3, 30))?)?,
+    )
 }
 
 /// WHEN NOT MATCHED BY SOURCE AND n = 10 THEN UPDATE SET n = NULL.
@@ -325,7 +336,11 @@ fn matched_cases(alloc: Global, cases: &mut List<Case>) -> Result<(), AllocError
         &[[Some(1), Some(10)], [Some(2), Some(5)], [Some(4), None]],
     );
     cases.push(by(ONE_MATCH, updated))?;
-    let twice = refuses("an update of a row with two matches", upsert(alloc)?, SqlRefusal::Cardinality);
+    let twice = refuses(
+        "an update of a row with two matches",
+        upsert(alloc)?,
+        SqlRefusal::Cardinality,
+    );
     cases.push(by(TWO_MATCHES, twice))?;
     let first = leaves(
         "the first clause that applies decides",
@@ -351,7 +366,11 @@ fn matched_cases(alloc: Global, cases: &mut List<Case>) -> Result<(), AllocError
         SqlRefusal::Cardinality,
     );
     cases.push(by(TWO_MATCHES, idle))?;
-    let null = refuses("a merge to NULL in a required column", merge_to_null(alloc)?, SqlRefusal::Null(0));
+    let null = refuses(
+        "a merge to NULL in a required column",
+        merge_to_null(alloc)?,
+        SqlRefusal::Null(0),
+    );
     cases.push(by(ONE_MATCH, null))
 }
 
@@ -359,10 +378,19 @@ fn unmatched_cases(alloc: Global, cases: &mut List<Case>) -> Result<(), AllocErr
     let inserted = leaves(
         "a source row without a match is inserted",
         upsert(alloc)?,
-        &[[Some(1), Some(10)], [Some(2), Some(20)], [Some(4), None], [Some(3), Some(30)]],
+        &[
+            [Some(1), Some(10)],
+            [Some(2), Some(20)],
+            [Some(4), None],
+            [Some(3), Some(30)],
+        ],
     );
     cases.push(by(&[[Some(3), Some(30)]], inserted))?;
-    let null = refuses("a null key in the source matches nothing", upsert(alloc)?, SqlRefusal::Null(0));
+    let null = refuses(
+        "a null key in the source matches nothing",
+        upsert(alloc)?,
+        SqlRefusal::Null(0),
+    );
     cases.push(by(&[[None, Some(5)]], null))?;
     let kept = leaves(
         "a row without a match is not set to NULL",
@@ -373,7 +401,12 @@ fn unmatched_cases(alloc: Global, cases: &mut List<Case>) -> Result<(), AllocErr
     let chosen = leaves(
         "a source row that no clause takes is not inserted",
         insert_where(alloc)?,
-        &[[Some(1), Some(10)], [Some(2), Some(20)], [Some(4), None], [Some(3), Some(30)]],
+        &[
+            [Some(1), Some(10)],
+            [Some(2), Some(20)],
+            [Some(4), None],
+            [Some(3), Some(30)],
+        ],
     );
     cases.push(by(&[[Some(3), Some(30)], [Some(5), Some(31)]], chosen))?;
     let gone = leaves(
