@@ -1,2 +1,4 @@
-pub mod Openings
+pub mod Creations
 pub mod MainRows
+pub mod Openings
+pub mod Reports

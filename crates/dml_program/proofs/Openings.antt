@@ -19,7 +19,10 @@ refused_table wanted status.StoreFailed r = tt
 refused_table wanted status.Memory r = tt
 refused_table wanted status.Done r = r
 refused_table wanted status.Usage r = r
+refused_table wanted (status.ScriptBad line kind) r = r
+refused_table wanted (status.InputFailed name) r = r
 refused_table wanted status.OutputFailed r = r
+refused_table wanted (status.StateUnknown session number) r = r
 
 -- the rows of a table are those of its current version
 pub of_version : (table : List ℕ) (version : ℕ) (files : Files) → Some version ≡ version_of table files → table_rows table files ≡ fault_as as_fault (plain_version table version files)

@@ -47,18 +47,18 @@ abbrev pub IsDone : Answer → Type 0
 IsDone (done lines left) = Unit {0}
 IsDone (refused refusal) = ⊥
 
--- The status is the wanted answer, or says that the store, an input, the output or memory failed. The output fails only
--- once everything else is done.
-abbrev pub Carries : Answer → Status → Type 0
-Carries answer status.Done = IsDone answer
-Carries answer status.Usage = answer ≡ refused status.Usage
-Carries answer (status.ScriptBad line kind) = answer ≡ refused (status.ScriptBad line kind)
-Carries answer (status.TableBad kind path) = answer ≡ refused (status.TableBad kind path)
-Carries answer status.StoreFailed = Unit {0}
-Carries answer (status.InputFailed name) = Unit {0}
-Carries answer status.OutputFailed = IsDone answer
-Carries answer (status.StateUnknown session number) = Unit {0}
-Carries answer status.Memory = Unit {0}
+-- The status is the wanted answer, or says that the store, an input, the output or memory failed. An input fails only where
+-- that is the answer, or where a read failed; the output fails only once everything else is done.
+abbrev pub Carries : Type 0 → Answer → Status → Type 0
+Carries failed answer status.Done = IsDone answer
+Carries failed answer status.Usage = answer ≡ refused status.Usage
+Carries failed answer (status.ScriptBad line kind) = answer ≡ refused (status.ScriptBad line kind)
+Carries failed answer (status.TableBad kind path) = answer ≡ refused (status.TableBad kind path)
+Carries failed answer status.StoreFailed = Unit {0}
+Carries failed answer (status.InputFailed name) = failed ⊎ (answer ≡ refused (status.InputFailed name))
+Carries failed answer status.OutputFailed = IsDone answer
+Carries failed answer (status.StateUnknown session number) = Unit {0}
+Carries failed answer status.Memory = Unit {0}
 
 -- the status that an answer is
 abbrev pub status_of : Answer → Status

@@ -1,6 +1,6 @@
 -- The first version of a table that is made, or the status of what is wrong: with the schema file's name first, then with
 -- the place of the table, then with what the file says.
-use Rattle.std.specs.Prelude.{◌≡◌, ℕ, ℤ, ◌^◌, ◌&&◌, Bool, List, Option, Some, None, is_some, Result, Ok, Err, ⊤, if◌then◌else◌}
+use Rattle.std.specs.Prelude.{◌≡◌, ◌⊎◌, ℕ, ℤ, ◌^◌, ◌&&◌, Bool, List, Option, Some, None, is_some, Result, Ok, Err, ⊤, if◌then◌else◌}
 use Rattle.std.specs.FinMap as map
 use Rattle.std.specs.List.{list_all}
 use Rattle.plain_types.specs.Steps.{◌>>=◌, fault_if, fault_as, by_option}
@@ -66,14 +66,14 @@ first_version_of table name files inputs now = do
   asked ← asked_by bytes
   Ok (first_text table now asked)
 
--- the status of a call that stopped where this is wanted
-abbrev pub Stops : {A : Type 0} → Result A Status → Status → Type 0
-Stops wanted status.Done = ⊥
-Stops wanted status.Usage = ⊥
-Stops wanted (status.ScriptBad line kind) = wanted ≡ Err (status.ScriptBad line kind)
-Stops wanted (status.TableBad kind path) = wanted ≡ Err (status.TableBad kind path)
-Stops wanted status.StoreFailed = Unit {0}
-Stops wanted (status.InputFailed name) = Unit {0}
-Stops wanted status.OutputFailed = ⊥
-Stops wanted (status.StateUnknown session number) = Unit {0}
-Stops wanted status.Memory = Unit {0}
+-- the status of a call that stopped where this is wanted; an input fails where that is wanted, or where a read failed
+abbrev pub Stops : {A : Type 0} → Type 0 → Result A Status → Status → Type 0
+Stops failed wanted status.Done = ⊥
+Stops failed wanted status.Usage = ⊥
+Stops failed wanted (status.ScriptBad line kind) = wanted ≡ Err (status.ScriptBad line kind)
+Stops failed wanted (status.TableBad kind path) = wanted ≡ Err (status.TableBad kind path)
+Stops failed wanted status.StoreFailed = Unit {0}
+Stops failed wanted (status.InputFailed name) = failed ⊎ (wanted ≡ Err (status.InputFailed name))
+Stops failed wanted status.OutputFailed = ⊥
+Stops failed wanted (status.StateUnknown session number) = Unit {0}
+Stops failed wanted status.Memory = Unit {0}

@@ -1,6 +1,7 @@
 // Makes the first version of a table.
 ghost use Rattle.std.specs.Prelude.{◌≡◌, ℕ, List, Option, None, Some, Ok, Err, IfOk, IfErr, OnOk};
 ghost use Rattle.std.specs.Option.{ForSome};
+ghost use Rattle.plain_types.specs.Causes.{Rose};
 ghost use Rattle.store_core.specs.Files.{Files, KeepsFiles};
 ghost use Rattle.table_definition.specs.Definition.{asked, definition_of};
 ghost use Rattle.table_names.specs.Versions.{version_of};
@@ -32,7 +33,7 @@ pub(crate) fn create<S: Store, I: Inputs, C: Clock>(
     schema: &str,
 ) -> Result<Vec<u8>, Status>
     ensures found { IfOk result (λ lines. Told (S.files store.old) (I.contents inputs.old) (C.time clock.old) (λ files given now. Prints (create_answer table.now files (first_version_of table.now schema.now files given now)) lines.items)) }
-    ensures refused { IfErr result (λ status. Told (S.files store.old) (I.contents inputs.old) (C.time clock.old) (λ files given now. Carries (create_answer table.now files (first_version_of table.now schema.now files given now)) status)) }
+    ensures refused { IfErr result (λ status. Told (S.files store.old) (I.contents inputs.old) (C.time clock.old) (λ files given now. Carries (Rose (I.faults inputs.old) (I.faults inputs.new)) (create_answer table.now files (first_version_of table.now schema.now files given now)) status)) }
     ensures leaves { Told (S.files store.old) (I.contents inputs.old) (C.time clock.old) (λ files given now. Leaves (create_answer table.now files (first_version_of table.now schema.now files given now)) (so_far result) files (S.files store.new)) }
     ensures kept { KeepsFiles (S.files store.old) (S.files store.new) }
     ensures kind { IfErr result IsStop }
@@ -40,7 +41,10 @@ pub(crate) fn create<S: Store, I: Inputs, C: Clock>(
     ensures input { IfErr result (λ status. HasInputCause status (I.contents inputs.old) (I.faults inputs.old) (I.faults inputs.new)) }
     ensures quiet { OnOk result (IsSettled (S.faults store.old) (S.faults store.new) (S.unsettled store.new) × (I.faults inputs.new ≡ I.faults inputs.old)) }
 {
-    let text = first_version(alloc, store, inputs, clock, table, schema)?;
+    let text = match first_version(alloc, store, inputs, clock, table, schema) {
+        Ok(text) => text,
+        Err(status) => return Err(status),
+    };
     let lines = report::created_lines(alloc)?;
     match make_version(alloc, store, table, text.as_slice()) {
         Ok(()) => Ok(lines),
@@ -59,7 +63,7 @@ fn first_version<S: Store, I: Inputs, C: Clock>(
     schema: &str,
 ) -> Result<Blob, Status>
     ensures found { IfOk result (λ text. Told (S.files store.old) (I.contents inputs.old) (C.time clock.old) (λ files given now. first_version_of table.now schema.now files given now ≡ Ok text)) }
-    ensures refused { IfErr result (λ status. Told (S.files store.old) (I.contents inputs.old) (C.time clock.old) (λ files given now. Stops (first_version_of table.now schema.now files given now) status)) }
+    ensures refused { IfErr result (λ status. Told (S.files store.old) (I.contents inputs.old) (C.time clock.old) (λ files given now. Stops (Rose (I.faults inputs.old) (I.faults inputs.new)) (first_version_of table.now schema.now files given now) status)) }
     ensures fresh { OnOk result (ForSome (S.files store.old) (λ files. version_of table.now files ≡ None)) }
     ensures files { S.files store.new ≡ S.files store.old }
     ensures kind { IfErr result IsStop }
@@ -77,7 +81,7 @@ fn first_version<S: Store, I: Inputs, C: Clock>(
 // Reads a script or a schema file, and gives nothing of one that is too long.
 fn read_file<I: Inputs>(alloc: Global, inputs: &mut I, name: &str) -> Result<Option<Blob>, Status>
     ensures found { IfOk result (λ bytes. ForSome (I.contents inputs.old) (λ given. file_given name.now given ≡ Ok bytes)) }
-    ensures refused { IfErr result (λ status. ForSome (I.contents inputs.old) (λ given. Stops (file_given name.now given) status)) }
+    ensures refused { IfErr result (λ status. ForSome (I.contents inputs.old) (λ given. Stops (Rose (I.faults inputs.old) (I.faults inputs.new)) (file_given name.now given) status)) }
     ensures contents { I.contents inputs.new ≡ I.contents inputs.old }
     ensures kind { IfErr result IsStop }
     ensures store { IfErr result (λ status. (before now unsettled : ℕ) → HasStoreCause status before now unsettled) }
@@ -98,7 +102,7 @@ fn read_file<I: Inputs>(alloc: Global, inputs: &mut I, name: &str) -> Result<Opt
 #[tactic(auto, unfolding(crate::specs::Creating::may_be_made))]
 fn check_place<S: Store>(alloc: Global, store: &mut S, table: &str) -> Result<(), Status>
     ensures found { OnOk result (ForSome (S.files store.old) (λ files. may_be_made table.now files ≡ Ok tt)) }
-    ensures refused { IfErr result (λ status. ForSome (S.files store.old) (λ files. Stops (may_be_made table.now files) status)) }
+    ensures refused { IfErr result (λ status. ForSome (S.files store.old) (λ files. Stops ⊥ (may_be_made table.now files) status)) }
     ensures fresh { OnOk result (ForSome (S.files store.old) (λ files. version_of table.now files ≡ None)) }
     ensures files { S.files store.new ≡ S.files store.old }
     ensures kind { IfErr result IsRefusal }
@@ -111,7 +115,7 @@ fn check_place<S: Store>(alloc: Global, store: &mut S, table: &str) -> Result<()
 
 fn check_no_version<S: Store>(alloc: Global, store: &mut S, table: &str) -> Result<(), Status>
     ensures found { OnOk result (ForSome (S.files store.old) (λ files. has_no_version table.now files ≡ Ok tt)) }
-    ensures refused { IfErr result (λ status. ForSome (S.files store.old) (λ files. Stops (has_no_version table.now files) status)) }
+    ensures refused { IfErr result (λ status. ForSome (S.files store.old) (λ files. Stops ⊥ (has_no_version table.now files) status)) }
     ensures fresh { OnOk result (ForSome (S.files store.old) (λ files. version_of table.now files ≡ None)) }
     ensures files { S.files store.new ≡ S.files store.old }
     ensures kind { IfErr result IsRefusal }
@@ -130,7 +134,7 @@ fn check_no_version<S: Store>(alloc: Global, store: &mut S, table: &str) -> Resu
 
 fn check_not_compressed<S: Store>(alloc: Global, store: &mut S, table: &str) -> Result<(), Status>
     ensures found { OnOk result (ForSome (S.files store.old) (λ files. is_not_compressed table.now files ≡ Ok tt)) }
-    ensures refused { IfErr result (λ status. ForSome (S.files store.old) (λ files. Stops (is_not_compressed table.now files) status)) }
+    ensures refused { IfErr result (λ status. ForSome (S.files store.old) (λ files. Stops ⊥ (is_not_compressed table.now files) status)) }
     ensures files { S.files store.new ≡ S.files store.old }
     ensures kind { IfErr result IsRefusal }
     ensures store { IfErr result (λ status. HasStoreCause status (S.faults store.old) (S.faults store.new) (S.unsettled store.new)) }
@@ -151,7 +155,7 @@ fn check_not_compressed<S: Store>(alloc: Global, store: &mut S, table: &str) -> 
 fn read_asked(alloc: Global, bytes: Option<Blob>) -> Result<Definition, Status>
     ensures found { IfOk result (λ d. asked_by bytes ≡ Ok (asked d)) }
     ensures text { IfOk result (λ d. (text : List ℕ) × (definition_of text ≡ Ok (asked d))) }
-    ensures refused { IfErr result (Stops (asked_by bytes)) }
+    ensures refused { IfErr result (Stops ⊥ (asked_by bytes)) }
     ensures kind { IfErr result IsFormStop }
 {
     let Some(bytes) = bytes else {
@@ -200,7 +204,7 @@ fn make_version<S: Store>(
     text: &[u8],
 ) -> Result<(), Status>
     requires { ForSome (S.files store.old) (λ files. version_of table.now files ≡ None) }
-    ensures refused { IfErr result (λ status. ForSome (S.files store.old) (λ files. Carries (create_answer table.now files (Ok text.now)) status)) }
+    ensures refused { IfErr result (λ status. ForSome (S.files store.old) (λ files. Carries ⊥ (create_answer table.now files (Ok text.now)) status)) }
     ensures leaves { ForSome (S.files store.old) (λ files. Leaves (create_answer table.now files (Ok text.now)) (so_far result) files (S.files store.new)) }
     ensures kept { KeepsFiles (S.files store.old) (S.files store.new) }
     ensures kind { IfErr result IsStop }

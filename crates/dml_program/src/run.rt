@@ -32,7 +32,7 @@ pub fn run_program<S: Store, I: Inputs, K: Sink, C: Clock>(
     // The answer is the one that the words, the files, the inputs and the time want, or names what failed.
     ensures usage { result ≡ Status.Usage → command_of (texts words.now) ≡ None }
     ensures refused { command_of (texts words.now) ≡ None → (result ≡ Status.Usage) ⊎ (result ≡ Status.Memory) }
-    ensures answer { Told (S.files store.old) (I.contents inputs.old) (C.time clock.old) (λ files given now. Carries (answer_of (texts words.now) files given now) result) }
+    ensures answer { Told (S.files store.old) (I.contents inputs.old) (C.time clock.old) (λ files given now. Carries (Rose (I.faults inputs.old) (I.faults inputs.new)) (answer_of (texts words.now) files given now) result) }
 
     // A failure has its cause, and where nothing failed the wanted answer comes, or want of memory.
     ensures store { HasStoreCause result (S.faults store.old) (S.faults store.new) (S.unsettled store.new) }
@@ -64,7 +64,7 @@ fn carry_out<S: Store, I: Inputs, C: Clock>(
     clock: &mut C,
 ) -> Result<Vec<u8>, Status>
     ensures found { IfOk result (λ lines. Told (S.files store.old) (I.contents inputs.old) (C.time clock.old) (λ files given now. Prints (answer_of (texts words.now) files given now) lines.items)) }
-    ensures refused { IfErr result (λ status. Told (S.files store.old) (I.contents inputs.old) (C.time clock.old) (λ files given now. Carries (answer_of (texts words.now) files given now) status)) }
+    ensures refused { IfErr result (λ status. Told (S.files store.old) (I.contents inputs.old) (C.time clock.old) (λ files given now. Carries (Rose (I.faults inputs.old) (I.faults inputs.new)) (answer_of (texts words.now) files given now) status)) }
     ensures leaves { Told (S.files store.old) (I.contents inputs.old) (C.time clock.old) (λ files given now. Leaves (answer_of (texts words.now) files given now) (so_far result) files (S.files store.new)) }
     ensures kept { KeepsFiles (S.files store.old) (S.files store.new) }
     ensures kind { IfErr result IsRefused }
@@ -87,7 +87,7 @@ fn carry_out<S: Store, I: Inputs, C: Clock>(
 // Carries out `rows`.
 fn rows<S: Store>(alloc: Global, store: &mut S, table: &str) -> Result<Vec<u8>, Status>
     ensures found { IfOk result (λ lines. ForSome (S.files store.old) (λ files. Prints (rows_answer files (table_rows table.now files)) lines.items)) }
-    ensures refused { IfErr result (λ status. ForSome (S.files store.old) (λ files. Carries (rows_answer files (table_rows table.now files)) status)) }
+    ensures refused { IfErr result (λ status. ForSome (S.files store.old) (λ files. Carries ⊥ (rows_answer files (table_rows table.now files)) status)) }
     ensures leaves { ForSome (S.files store.old) (λ files. Leaves (rows_answer files (table_rows table.now files)) (so_far result) files (S.files store.new)) }
     ensures kept { KeepsFiles (S.files store.old) (S.files store.new) }
     ensures kind { IfErr result IsRefusal }
