@@ -23,32 +23,20 @@ use Rattle.json.specs.Json as json
 use Rattle.serde_json.specs.Data as values
 use Rattle.serde_json.specs.Read.{is_integer, float_of, number_from, number_of, of_json, of_items, of_members, read, max_depth}
 use Rattle.avro_binary.specs.SchemaText.{json_of}
+use Rattle.avro_binary.proofs.SchemaLaws.{same_some, none_some, and_then, both_true}
+use Rattle.avro_binary.proofs.SchemaTexts.{front_at}
 
 -- ---- options
 
-some_is : {A : Type 0} (x y : A) → Some x ≡ Some y → x ≡ y
-some_is x y e = cc
-
-none_is : {A P : Type 0} (y : A) → None ≡ Some y → P
-none_is y e = absurd cc
-
-then_some : {A B : Type 0} (g : A → Option B) (o : Option A) (y : B) → option_and_then g o ≡ Some y → (x : A) × (o ≡ Some x) × (g x ≡ Some y)
-then_some g None y e = none_is y e
-then_some g (Some x) y e = (x, refl, e)
-
 map_some : {A B : Type 0} (g : A → B) (o : Option A) (y : B) → option_map g o ≡ Some y → (x : A) × (o ≡ Some x) × (g x ≡ y)
-map_some g None y e = none_is y e
-map_some g (Some x) y e = (x, refl, some_is (g x) y e)
+map_some g None y e = none_some y e
+map_some g (Some x) y e = (x, refl, same_some (g x) y e)
 
 -- ---- a text is cut at a byte of ASCII
 
-at_front : (pre : List ℕ) (x : ℕ) (xs : List ℕ) → (length pre < length (pre ++ x ∷ xs)) × (get_or (pre ++ x ∷ xs) (length pre) 0 ≡ x)
-at_front [] x xs = (omega arith, refl)
-at_front (p ∷ pre) x xs = let h = at_front pre x xs in (omega arith, h.1)
-
 cut_before : (pre : List ℕ) (x : ℕ) (xs : List ℕ) → x < 128 → IsUtf8 (pre ++ x ∷ xs) → IsUtf8 pre
 cut_before pre x xs small u =
-    let h = at_front pre x xs in
+    let h = front_at pre x xs in
     let low : get_or (pre ++ x ∷ xs) (length pre) 0 < 128 = omega arith in
     subst IsUtf8 (take_at pre (x ∷ xs) (length pre) refl) (IsUtf8-take (pre ++ x ∷ xs) (length pre) u (IsCharBoundary-before_ascii (pre ++ x ∷ xs) (length pre) h.0 low))
 
@@ -58,7 +46,7 @@ one_more (p ∷ pre) x = let h = one_more pre x in omega arith
 
 cut_after : (pre : List ℕ) (x : ℕ) (xs : List ℕ) → x < 128 → IsUtf8 (pre ++ x ∷ xs) → IsUtf8 xs
 cut_after pre x xs small u =
-    let h = at_front pre x xs in
+    let h = front_at pre x xs in
     let low : get_or (pre ++ x ∷ xs) (length pre) 0 < 128 = omega arith in
     let rest : drop (length pre + 1) (pre ++ x ∷ xs) ≡ xs = ap (drop (length pre + 1)) (sym (append_assoc pre (x ∷ []) xs)) ∙ drop_at (pre ++ x ∷ []) xs (length pre + 1) (one_more pre x) in
     subst IsUtf8 rest (IsUtf8-drop (pre ++ x ∷ xs) (length pre + 1) u (IsCharBoundary-after_ascii (pre ++ x ∷ xs) (length pre) u h.0 low))
@@ -86,12 +74,12 @@ plain_step : (q k l : Bool) (x : ℕ) (xs pre s : List ℕ) → (x == 34) ≡ q 
 plain_step true k l x xs pre s is b u escaped more e =
     let x34 : x ≡ 34 = eqb-true x 34 is in
     let small : x < 128 = omega arith in
-    subst (λ (t : List ℕ). IsUtf8 (pre ++ t)) (some_is [] s e) (subst IsUtf8 (sym (append-nil pre)) (cut_before pre x xs small u))
+    subst (λ (t : List ℕ). IsUtf8 (pre ++ t)) (same_some [] s e) (subst IsUtf8 (sym (append-nil pre)) (cut_before pre x xs small u))
 plain_step false true l x xs pre s q is u escaped more e =
     let x92 : x ≡ 92 = eqb-true x 92 is in
     let small : x < 128 = omega arith in
     IsUtf8-append pre s (cut_before pre x xs small u) (escaped s (cut_after pre x xs small u) e)
-plain_step false false true x xs pre s q is u escaped more e = none_is s e
+plain_step false false true x xs pre s q is u escaped more e = none_some s e
 plain_step false false false x xs pre s q is u escaped more e =
     let r = map_some (λ (t : List ℕ). (x ∷ []) ++ t) (content plain xs) s e in
     let longer : IsUtf8 ((pre ++ x ∷ []) ++ r.0) = more (pre ++ x ∷ []) r.0 (subst IsUtf8 (sym (append_assoc pre (x ∷ []) xs)) u) r.1 in
@@ -108,7 +96,7 @@ backslash_step true x xs s is u unit more e =
     let small : x < 128 = omega arith in
     unit s (cut_after [] x xs small u) e
 backslash_step false x xs s is u unit more e =
-    let c = then_some (λ (c : ℕ). prepend (c ∷ []) (content plain xs)) (short_escape x) s e in
+    let c = and_then (λ (c : ℕ). prepend (c ∷ []) (content plain xs)) (short_escape x) s e in
     let small = short_small x c.0 c.1 in
     let r = map_some (λ (t : List ℕ). (c.0 ∷ []) ++ t) (content plain xs) s c.2 in
     let rest : IsUtf8 r.0 = more [] r.0 (cut_after [] x xs small.0 u) r.1 in
@@ -117,13 +105,9 @@ backslash_step false x xs s is u unit more e =
 hex_small : (a : ℕ) → is_digit a 16 ≡ true → (a < 128) × (digit_value a < 16)
 hex_small a e = (grind arith, ltb-true (digit_value a) 16 e)
 
-both_are : (a b : Bool) → (a && b) ≡ true → (a ≡ true) × (b ≡ true)
-both_are true b e = (refl, e)
-both_are false b e = absurd cc
-
 unit_by : (h : Bool) (u v : ℕ) → cond h (Some u) None ≡ Some v → (h ≡ true) × (u ≡ v)
-unit_by true u v e = (refl, some_is u v e)
-unit_by false u v e = none_is v e
+unit_by true u v e = (refl, same_some u v e)
+unit_by false u v e = none_some v e
 
 record Unit16 (a b c d u : ℕ) : Type 0 where
   a_small : a < 128
@@ -136,9 +120,9 @@ unit_of : (a b c d u : ℕ) → code_unit a b c d ≡ Some u → Unit16 a b c d 
 unfolding code_unit
 unit_of a b c d u e =
     let h = unit_by (is_digit a 16 && is_digit b 16 && is_digit c 16 && is_digit d 16) (digit_value a * 4096 + digit_value b * 256 + digit_value c * 16 + digit_value d) u e in
-    let abc = both_are (is_digit a 16 && is_digit b 16 && is_digit c 16) (is_digit d 16) h.0 in
-    let ab = both_are (is_digit a 16 && is_digit b 16) (is_digit c 16) abc.0 in
-    let a_b = both_are (is_digit a 16) (is_digit b 16) ab.0 in
+    let abc = both_true (is_digit a 16 && is_digit b 16 && is_digit c 16) (is_digit d 16) h.0 in
+    let ab = both_true (is_digit a 16 && is_digit b 16) (is_digit c 16) abc.0 in
+    let a_b = both_true (is_digit a 16) (is_digit b 16) ab.0 in
     let ha = hex_small a a_b.0 in
     let hb = hex_small b a_b.1 in
     let hc = hex_small c ab.1 in
@@ -160,15 +144,15 @@ no_surrogate u small high low = elim (cases_lt u 55296) [
 unit_step : (high low : Bool) (u : ℕ) (xs s : List ℕ) → is_high_surrogate u ≡ high → is_low_surrogate u ≡ low → u < 65536 → IsUtf8 xs → TextOf (after_high u) xs → TextOf plain xs
     → cond high (content (after_high u) xs) (cond low None (prepend (encode_utf8 u) (content plain xs))) ≡ Some s → IsUtf8 s
 unit_step true low u xs s is l small text pair more e = pair s is text e
-unit_step false true u xs s h is small text pair more e = none_is s e
+unit_step false true u xs s h is small text pair more e = none_some s e
 unit_step false false u xs s h l small text pair more e =
     let r = map_some (λ (t : List ℕ). encode_utf8 u ++ t) (content plain xs) s e in
     subst IsUtf8 r.2 (IsUtf8-append (encode_utf8 u) r.0 (IsUtf8-encode u (no_surrogate u small h l)) (more [] r.0 text r.1))
 
 pair_scalar : (h l : ℕ) → is_high_surrogate h ≡ true → is_low_surrogate l ≡ true → scalar (surrogate_pair h l) ≡ true
 pair_scalar h l high low =
-    let a = both_are (nat_le 0xd800 h) (nat_lt h 0xdc00) high in
-    let b = both_are (nat_le 0xdc00 l) (nat_lt l 0xe000) low in
+    let a = both_true (nat_le 0xd800 h) (nat_lt h 0xdc00) high in
+    let b = both_true (nat_le 0xdc00 l) (nat_lt l 0xe000) low in
     let a0 : 0xd800 ≤ h = leb-true 0xd800 h a.0 in
     let a1 : h < 0xdc00 = ltb-true h 0xdc00 a.1 in
     let b0 : 0xdc00 ≤ l = leb-true 0xdc00 l b.0 in
@@ -179,40 +163,40 @@ low_step : (low : Bool) (h l : ℕ) (xs s : List ℕ) → is_low_surrogate l ≡
 low_step true h l xs s is high text more e =
     let r = map_some (λ (t : List ℕ). encode_utf8 (surrogate_pair h l) ++ t) (content plain xs) s e in
     subst IsUtf8 r.2 (IsUtf8-append (encode_utf8 (surrogate_pair h l)) r.0 (IsUtf8-encode (surrogate_pair h l) (pair_scalar h l high is)) (more [] r.0 text r.1))
-low_step false h l xs s is high text more e = none_is s e
+low_step false h l xs s is high text more e = none_some s e
 
 slash_by : {A : Type 0} (h : Bool) (o : Option A) (s : A) → cond h o None ≡ Some s → (h ≡ true) × (o ≡ Some s)
 slash_by true o s e = (refl, e)
-slash_by false o s e = none_is s e
+slash_by false o s e = none_some s e
 
 content_text : (w : Within) (xs : List ℕ) → TextOf w xs
 unfolding content
-content_text plain [] = λ pre s u e. none_is s e
+content_text plain [] = λ pre s u e. none_some s e
 content_text plain (x ∷ xs) = λ pre s u e. plain_step (x == 34) (x == 92) (nat_lt x 32) x xs pre s refl refl u (content_text after_backslash xs) (content_text plain xs) e
-content_text after_backslash [] = λ s u e. none_is s e
+content_text after_backslash [] = λ s u e. none_some s e
 content_text after_backslash (x ∷ xs) = λ s u e. backslash_step (x == 117) x xs s refl u (content_text after_u xs) (content_text plain xs) e
-content_text after_u [] = λ s u e. none_is s e
-content_text after_u (a ∷ []) = λ s u e. none_is s e
-content_text after_u (a ∷ b ∷ []) = λ s u e. none_is s e
-content_text after_u (a ∷ b ∷ c ∷ []) = λ s u e. none_is s e
+content_text after_u [] = λ s u e. none_some s e
+content_text after_u (a ∷ []) = λ s u e. none_some s e
+content_text after_u (a ∷ b ∷ []) = λ s u e. none_some s e
+content_text after_u (a ∷ b ∷ c ∷ []) = λ s u e. none_some s e
 content_text after_u (a ∷ b ∷ c ∷ d ∷ xs) = λ s u e.
-    let c1 = then_some (λ (v : ℕ). cond (is_high_surrogate v) (content (after_high v) xs) (cond (is_low_surrogate v) None (prepend (encode_utf8 v) (content plain xs)))) (code_unit a b c d) s e in
+    let c1 = and_then (λ (v : ℕ). cond (is_high_surrogate v) (content (after_high v) xs) (cond (is_low_surrogate v) None (prepend (encode_utf8 v) (content plain xs)))) (code_unit a b c d) s e in
     let h = unit_of a b c d c1.0 c1.1 in
     unit_step (is_high_surrogate c1.0) (is_low_surrogate c1.0) c1.0 xs s refl refl h.fits (after_four a b c d c1.0 xs h u) (content_text (after_high c1.0) xs) (content_text plain xs) c1.2
-content_text (after_high h) [] = λ s high u e. none_is s e
-content_text (after_high h) (y ∷ []) = λ s high u e. none_is s e
-content_text (after_high h) (y ∷ z ∷ []) = λ s high u e. none_is s e
-content_text (after_high h) (y ∷ z ∷ a ∷ []) = λ s high u e. none_is s e
-content_text (after_high h) (y ∷ z ∷ a ∷ b ∷ []) = λ s high u e. none_is s e
-content_text (after_high h) (y ∷ z ∷ a ∷ b ∷ c ∷ []) = λ s high u e. none_is s e
+content_text (after_high h) [] = λ s high u e. none_some s e
+content_text (after_high h) (y ∷ []) = λ s high u e. none_some s e
+content_text (after_high h) (y ∷ z ∷ []) = λ s high u e. none_some s e
+content_text (after_high h) (y ∷ z ∷ a ∷ []) = λ s high u e. none_some s e
+content_text (after_high h) (y ∷ z ∷ a ∷ b ∷ []) = λ s high u e. none_some s e
+content_text (after_high h) (y ∷ z ∷ a ∷ b ∷ c ∷ []) = λ s high u e. none_some s e
 content_text (after_high h) (y ∷ z ∷ a ∷ b ∷ c ∷ d ∷ xs) = λ s high u e.
     let pair = slash_by ((y == 92) && (z == 117)) (option_and_then (λ l. cond (is_low_surrogate l) (prepend (encode_utf8 (surrogate_pair h l)) (content plain xs)) None) (code_unit a b c d)) s e in
-    let yz = both_are (y == 92) (z == 117) pair.0 in
+    let yz = both_true (y == 92) (z == 117) pair.0 in
     let y_is : y ≡ 92 = eqb-true y 92 yz.0 in
     let z_is : z ≡ 117 = eqb-true z 117 yz.1 in
     let y_small : y < 128 = omega arith in
     let z_small : z < 128 = omega arith in
-    let l = then_some (λ (l : ℕ). cond (is_low_surrogate l) (prepend (encode_utf8 (surrogate_pair h l)) (content plain xs)) None) (code_unit a b c d) s pair.1 in
+    let l = and_then (λ (l : ℕ). cond (is_low_surrogate l) (prepend (encode_utf8 (surrogate_pair h l)) (content plain xs)) None) (code_unit a b c d) s pair.1 in
     let unit = unit_of a b c d l.0 l.1 in
     low_step (is_low_surrogate l.0) h l.0 xs s refl high (after_four a b c d l.0 xs unit (cut_after [] z (a ∷ b ∷ c ∷ d ∷ xs) z_small (cut_after [] y (z ∷ a ∷ b ∷ c ∷ d ∷ xs) y_small u))) (content_text plain xs) l.2
 
@@ -383,75 +367,75 @@ mapped {A = A} P Q f o r h parts e =
     subst (λ (y : _). Q y.0 × TokenTexts y.1) x.2 (h x.0.0 p.0, p.1)
 
 ended : (ts rest : List Token) → TokenTexts ts → json.after_end_array ts ≡ Some rest → TokenTexts rest
-ended [] rest h e = none_is rest e
-ended (begin_object ∷ ts) rest h e = none_is rest e
-ended (end_object ∷ ts) rest h e = none_is rest e
-ended (begin_array ∷ ts) rest h e = none_is rest e
-ended (end_array ∷ ts) rest h e = subst TokenTexts (some_is ts rest e) h.1
-ended (key s ∷ ts) rest h e = none_is rest e
-ended (string s ∷ ts) rest h e = none_is rest e
-ended (number s ∷ ts) rest h e = none_is rest e
-ended (boolean b ∷ ts) rest h e = none_is rest e
-ended (null ∷ ts) rest h e = none_is rest e
-ended (bad ∷ ts) rest h e = none_is rest e
+ended [] rest h e = none_some rest e
+ended (begin_object ∷ ts) rest h e = none_some rest e
+ended (end_object ∷ ts) rest h e = none_some rest e
+ended (begin_array ∷ ts) rest h e = none_some rest e
+ended (end_array ∷ ts) rest h e = subst TokenTexts (same_some ts rest e) h.1
+ended (key s ∷ ts) rest h e = none_some rest e
+ended (string s ∷ ts) rest h e = none_some rest e
+ended (number s ∷ ts) rest h e = none_some rest e
+ended (boolean b ∷ ts) rest h e = none_some rest e
+ended (null ∷ ts) rest h e = none_some rest e
+ended (bad ∷ ts) rest h e = none_some rest e
 
 keyed : (ts : List Token) (r : Option (List ℕ) × List Token) → TokenTexts ts → json.read_key ts ≡ Some r → TokenTexts r.1
-keyed [] r h e = none_is r e
-keyed (begin_object ∷ ts) r h e = none_is r e
-keyed (end_object ∷ ts) r h e = subst (λ (x : Option (List ℕ) × List Token). TokenTexts x.1) (some_is (None, ts) r e) h.1
-keyed (begin_array ∷ ts) r h e = none_is r e
-keyed (end_array ∷ ts) r h e = none_is r e
-keyed (key s ∷ ts) r h e = subst (λ (x : Option (List ℕ) × List Token). TokenTexts x.1) (some_is (Some s, ts) r e) h.1
-keyed (string s ∷ ts) r h e = none_is r e
-keyed (number s ∷ ts) r h e = none_is r e
-keyed (boolean b ∷ ts) r h e = none_is r e
-keyed (null ∷ ts) r h e = none_is r e
-keyed (bad ∷ ts) r h e = none_is r e
+keyed [] r h e = none_some r e
+keyed (begin_object ∷ ts) r h e = none_some r e
+keyed (end_object ∷ ts) r h e = subst (λ (x : Option (List ℕ) × List Token). TokenTexts x.1) (same_some (None, ts) r e) h.1
+keyed (begin_array ∷ ts) r h e = none_some r e
+keyed (end_array ∷ ts) r h e = none_some r e
+keyed (key s ∷ ts) r h e = subst (λ (x : Option (List ℕ) × List Token). TokenTexts x.1) (same_some (Some s, ts) r e) h.1
+keyed (string s ∷ ts) r h e = none_some r e
+keyed (number s ∷ ts) r h e = none_some r e
+keyed (boolean b ∷ ts) r h e = none_some r e
+keyed (null ∷ ts) r h e = none_some r e
+keyed (bad ∷ ts) r h e = none_some r e
 
 item_step : (value : json.Parse json.Json) (more : json.Parse json.Items) (ts : List Token) (o : Option (List Token)) (r : json.Items × List Token) → Parses JsonText value → Parses ItemTexts more → TokenTexts ts → json.after_end_array ts ≡ o → json.items_step value more ts o ≡ Some r
     → ItemTexts r.0 × TokenTexts r.1
-item_step value more ts (Some rest) r v m h is e = subst (λ (x : json.Items × List Token). ItemTexts x.0 × TokenTexts x.1) (some_is (json.no_items, rest) r e) (tt, ended ts rest h is)
+item_step value more ts (Some rest) r v m h is e = subst (λ (x : json.Items × List Token). ItemTexts x.0 × TokenTexts x.1) (same_some (json.no_items, rest) r e) (tt, ended ts rest h is)
 item_step value more ts None r v m h is e =
-    let p = then_some (λ (p : json.Json × List Token). json.parse_map (json.item p.0) (more p.1)) (value ts) r e in
+    let p = and_then (λ (p : json.Json × List Token). json.parse_map (json.item p.0) (more p.1)) (value ts) r e in
     let first = v ts p.0 h p.1 in
     mapped ItemTexts ItemTexts (json.item p.0.0) (more p.0.1) r (λ js g. (first.0, g)) (λ x is. m p.0.1 x first.1 is) p.2
 
 items_text : (value : json.Parse json.Json) (n : ℕ) → Parses JsonText value → Parses ItemTexts (json.items value n)
 unfolding json.items
-items_text value zero v ts r h e = none_is r e
+items_text value zero v ts r h e = none_some r e
 items_text value (suc n) v ts r h e = item_step value (json.items value n) ts (json.after_end_array ts) r v (items_text value n v) h refl e
 
 member_step : (value : json.Parse json.Json) (more : json.Parse json.Members) (k : Option (List ℕ)) (ts : List Token) (r : json.Members × List Token) → Parses JsonText value → Parses MemberTexts more → TokenTexts ts → json.members_step value more k ts ≡ Some r
     → MemberTexts r.0 × TokenTexts r.1
-member_step value more None ts r v m h e = subst (λ (x : json.Members × List Token). MemberTexts x.0 × TokenTexts x.1) (some_is (json.no_members, ts) r e) (tt, h)
+member_step value more None ts r v m h e = subst (λ (x : json.Members × List Token). MemberTexts x.0 × TokenTexts x.1) (same_some (json.no_members, ts) r e) (tt, h)
 member_step value more (Some k) ts r v m h e =
-    let p = then_some (λ (p : json.Json × List Token). json.parse_map (json.member k p.0) (more p.1)) (value ts) r e in
+    let p = and_then (λ (p : json.Json × List Token). json.parse_map (json.member k p.0) (more p.1)) (value ts) r e in
     let first = v ts p.0 h p.1 in
     mapped MemberTexts MemberTexts (json.member k p.0.0) (more p.0.1) r (λ js g. (first.0, g)) (λ x is. m p.0.1 x first.1 is) p.2
 
 members_text : (value : json.Parse json.Json) (n : ℕ) → Parses JsonText value → Parses MemberTexts (json.members value n)
 unfolding json.members
-members_text value zero v ts r h e = none_is r e
+members_text value zero v ts r h e = none_some r e
 members_text value (suc n) v ts r h e =
-    let k = then_some (λ (p : Option (List ℕ) × List Token). json.members_step value (json.members value n) p.0 p.1) (json.read_key ts) r e in
+    let k = and_then (λ (p : Option (List ℕ) × List Token). json.members_step value (json.members value n) p.0 p.1) (json.read_key ts) r e in
     member_step value (json.members value n) k.0.0 k.0.1 r v (members_text value n v) (keyed ts k.0 h k.1) k.2
 
 value_by : (a : json.Parse json.Items) (o : json.Parse json.Members) → Parses ItemTexts a → Parses MemberTexts o → Parses JsonText (json.value_with a o)
-value_by a o ha ho [] r h e = none_is r e
+value_by a o ha ho [] r h e = none_some r e
 value_by a o ha ho (begin_object ∷ ts) r h e = mapped MemberTexts JsonText json.object (o ts) r (λ ms g. g) (λ x is. ho ts x h.1 is) e
-value_by a o ha ho (end_object ∷ ts) r h e = none_is r e
+value_by a o ha ho (end_object ∷ ts) r h e = none_some r e
 value_by a o ha ho (begin_array ∷ ts) r h e = mapped ItemTexts JsonText json.array (a ts) r (λ js g. g) (λ x is. ha ts x h.1 is) e
-value_by a o ha ho (end_array ∷ ts) r h e = none_is r e
-value_by a o ha ho (key s ∷ ts) r h e = none_is r e
-value_by a o ha ho (string s ∷ ts) r h e = subst (λ (x : json.Json × List Token). JsonText x.0 × TokenTexts x.1) (some_is (json.string s, ts) r e) (h.0, h.1)
-value_by a o ha ho (number s ∷ ts) r h e = subst (λ (x : json.Json × List Token). JsonText x.0 × TokenTexts x.1) (some_is (json.number s, ts) r e) (tt, h.1)
-value_by a o ha ho (boolean b ∷ ts) r h e = subst (λ (x : json.Json × List Token). JsonText x.0 × TokenTexts x.1) (some_is (json.boolean b, ts) r e) (tt, h.1)
-value_by a o ha ho (null ∷ ts) r h e = subst (λ (x : json.Json × List Token). JsonText x.0 × TokenTexts x.1) (some_is (json.null, ts) r e) (tt, h.1)
-value_by a o ha ho (bad ∷ ts) r h e = none_is r e
+value_by a o ha ho (end_array ∷ ts) r h e = none_some r e
+value_by a o ha ho (key s ∷ ts) r h e = none_some r e
+value_by a o ha ho (string s ∷ ts) r h e = subst (λ (x : json.Json × List Token). JsonText x.0 × TokenTexts x.1) (same_some (json.string s, ts) r e) (h.0, h.1)
+value_by a o ha ho (number s ∷ ts) r h e = subst (λ (x : json.Json × List Token). JsonText x.0 × TokenTexts x.1) (same_some (json.number s, ts) r e) (tt, h.1)
+value_by a o ha ho (boolean b ∷ ts) r h e = subst (λ (x : json.Json × List Token). JsonText x.0 × TokenTexts x.1) (same_some (json.boolean b, ts) r e) (tt, h.1)
+value_by a o ha ho (null ∷ ts) r h e = subst (λ (x : json.Json × List Token). JsonText x.0 × TokenTexts x.1) (same_some (json.null, ts) r e) (tt, h.1)
+value_by a o ha ho (bad ∷ ts) r h e = none_some r e
 
 value_text : (depth : ℕ) → Parses JsonText (json.value depth)
 unfolding json.value
-value_text zero = value_by (λ ts. None) (λ ts. None) (λ ts r h e. none_is r e) (λ ts r h e. none_is r e)
+value_text zero = value_by (λ ts. None) (λ ts. None) (λ ts r h e. none_some r e) (λ ts r h e. none_some r e)
 value_text (suc depth) =
     value_by (λ ts. json.items (json.value depth) (length ts) ts) (λ ts. json.members (json.value depth) (length ts) ts)
     (λ ts r h e. items_text (json.value depth) (length ts) (value_text depth) ts r h e) (λ ts r h e. members_text (json.value depth) (length ts) (value_text depth) ts r h e)
@@ -494,10 +478,10 @@ abbrev AreSmall : Option values.Num → Type 0
 AreSmall o = (n : values.Num) → o ≡ Some n → SmallNumber n
 
 none_small : AreSmall None
-none_small n e = none_is n e
+none_small n e = none_some n e
 
 one_small : (m : values.Num) → SmallNumber m → AreSmall (Some m)
-one_small m h n e = subst SmallNumber (some_is m n e) h
+one_small m h n e = subst SmallNumber (same_some m n e) h
 
 either_small : (c : Bool) (x y : Option values.Num) → (c ≡ true → AreSmall x) → AreSmall y → AreSmall (if c then x else y)
 either_small true x y hx hy = hx refl
@@ -510,7 +494,7 @@ signed_small : (sign : Bool) (p : Parts) → AreSmall (number_from sign p)
 signed_small true p = either_small (is_integer p && nat_lt 0 (numeral_digits p) && nat_le (numeral_digits p) (2 ^ 63)) (Some (values.negative (neg_ℤ (pos (numeral_digits p))))) (float_of true p) (λ e. one_small (values.negative (neg_ℤ (pos (numeral_digits p)))) tt) (float_small true p)
 signed_small false p =
     either_small (is_integer p && nat_lt (numeral_digits p) (2 ^ 64)) (Some (values.unsigned (numeral_digits p))) (float_of false p)
-    (λ e. one_small (values.unsigned (numeral_digits p)) (ltb-true (numeral_digits p) (2 ^ 64) (both_are (is_integer p) (nat_lt (numeral_digits p) (2 ^ 64)) e).1)) (float_small false p)
+    (λ e. one_small (values.unsigned (numeral_digits p)) (ltb-true (numeral_digits p) (2 ^ 64) (both_true (is_integer p) (nat_lt (numeral_digits p) (2 ^ 64)) e).1)) (float_small false p)
 
 number_small : (s : List ℕ) → AreSmall (number_of s)
 unfolding number_of
@@ -518,38 +502,38 @@ number_small s = either_small (slice_index s 0 == minus) (number_from true (scan
 
 mutual
   data_texts : (j : json.Json) (d : values.Data) → JsonText j → of_json j ≡ Some d → Texts d
-  data_texts json.null d h e = subst Texts (some_is values.null d e) tt
-  data_texts (json.boolean b) d h e = subst Texts (some_is (values.boolean b) d e) tt
+  data_texts json.null d h e = subst Texts (same_some values.null d e) tt
+  data_texts (json.boolean b) d h e = subst Texts (same_some (values.boolean b) d e) tt
   data_texts (json.number s) d h e = let n = map_some values.number (number_of s) d e in subst Texts n.2 (number_small s n.0 n.1)
-  data_texts (json.string s) d h e = subst Texts (some_is (values.string s) d e) h
+  data_texts (json.string s) d h e = subst Texts (same_some (values.string s) d e) h
   data_texts (json.array js) d h e = let ds = map_some values.array (of_items js) d e in subst Texts ds.2 (items_texts js ds.0 h ds.1)
   data_texts (json.object ms) d h e = let ds = map_some values.object (of_members ms values.no_members) d e in subst Texts ds.2 (members_texts ms values.no_members ds.0 h tt ds.1)
 
   items_texts : (js : json.Items) (ds : values.Items) → ItemTexts js → of_items js ≡ Some ds → EachTexts ds
-  items_texts json.no_items ds h e = subst EachTexts (some_is values.no_items ds e) tt
+  items_texts json.no_items ds h e = subst EachTexts (same_some values.no_items ds e) tt
   items_texts (json.item j js) ds h e =
-      let d = then_some (λ (d : values.Data). option_map (values.item d) (of_items js)) (of_json j) ds e in
+      let d = and_then (λ (d : values.Data). option_map (values.item d) (of_items js)) (of_json j) ds e in
       let others = map_some (values.item d.0) (of_items js) ds d.2 in
       subst EachTexts others.2 (data_texts j d.0 h.0 d.1, items_texts js others.0 h.1 others.1)
 
   members_texts : (ms : json.Members) (found all : values.Members) → MemberTexts ms → MembersTexts found → of_members ms found ≡ Some all → MembersTexts all
-  members_texts json.no_members found all h g e = subst MembersTexts (some_is found all e) g
+  members_texts json.no_members found all h g e = subst MembersTexts (same_some found all e) g
   members_texts (json.member k j ms) found all h g e =
-      let d = then_some (λ (d : values.Data). of_members ms (values.put k d found)) (of_json j) all e in
+      let d = and_then (λ (d : values.Data). of_members ms (values.put k d found)) (of_json j) all e in
       members_texts ms (values.put k d.0 found) all h.1 (put_texts k d.0 found (data_texts j d.0 h.0 d.1) g) d.2
 
 last_by : (j : json.Json) (ts : List Token) (k : json.Json) → json.if_last j ts ≡ Some k → j ≡ k
-last_by j [] k e = some_is j k e
-last_by j (t ∷ ts) k e = none_is k e
+last_by j [] k e = same_some j k e
+last_by j (t ∷ ts) k e = none_some k e
 
 utf8_by : (b : Bool) (o : Option values.Data) (d : values.Data) → (if b then o else None) ≡ Some d → (b ≡ true) × (o ≡ Some d)
 utf8_by true o d e = (refl, e)
-utf8_by false o d e = none_is d e
+utf8_by false o d e = none_some d e
 
 pub json_texts : (bytes : List ℕ) (d : values.Data) → json_of bytes ≡ Some d → Texts d
 json_texts bytes d e =
     let u = utf8_by (is_utf8 bytes) (read bytes) d e in
-    let j = then_some of_json (option_and_then (λ p. json.if_last p.0 p.1) (json.value max_depth (lex.tokens bytes))) d u.1 in
-    let p = then_some (λ p. json.if_last p.0 p.1) (json.value max_depth (lex.tokens bytes)) j.0 j.1 in
+    let j = and_then of_json (option_and_then (λ p. json.if_last p.0 p.1) (json.value max_depth (lex.tokens bytes))) d u.1 in
+    let p = and_then (λ p. json.if_last p.0 p.1) (json.value max_depth (lex.tokens bytes)) j.0 j.1 in
     let v = value_text max_depth (lex.tokens bytes) p.0 (punctuated lex.fresh (lex.lex lex.between bytes) (lexemes bytes [] lex.between (IsUtf8-from_is_utf8 bytes u.0))) p.1 in
     data_texts j.0 d (subst JsonText (last_by p.0.0 p.0.1 j.0 p.2) v.0) j.2

@@ -36,12 +36,13 @@ use Rattle.avro_binary.proofs.JsonTexts.{rebuilt, are_ascii, Good, GoodItems, Go
 abbrev IsDot : List ℕ → Option ℕ → Type 0
 IsDot name o = (o ≡ None) ⊎ ((at : ℕ) × (o ≡ Some at) × (at < length name) × (get_or name at 0 ≡ 46))
 
-here : (front : List ℕ) (b : ℕ) (rest : List ℕ) → (length front < length (front ++ b ∷ rest)) × (get_or (front ++ b ∷ rest) (length front) 0 ≡ b)
-here [] b rest = (omega arith, refl)
-here (x ∷ front) b rest = let h = here front b rest in (omega arith, h.1)
+-- the byte after the front
+pub front_at : (front : List ℕ) (b : ℕ) (rest : List ℕ) → (length front < length (front ++ b ∷ rest)) × (get_or (front ++ b ∷ rest) (length front) 0 ≡ b)
+front_at [] b rest = (omega arith, refl)
+front_at (x ∷ front) b rest = let h = front_at front b rest in (omega arith, h.1)
 
 dot_step : (c : Bool) (front : List ℕ) (b : ℕ) (rest : List ℕ) (last : Option ℕ) → eqb b 46 ≡ c → IsDot (front ++ b ∷ rest) last → IsDot (front ++ b ∷ rest) (if c then Some (length front) else last)
-dot_step true front b rest last e h = inr (length front, refl, (here front b rest).0, (here front b rest).1 ∙ eqb-true b 46 e)
+dot_step true front b rest last e h = inr (length front, refl, (front_at front b rest).0, (front_at front b rest).1 ∙ eqb-true b 46 e)
 dot_step false front b rest last e h = h
 
 dots : (front rest : List ℕ) (last : Option ℕ) → IsDot (front ++ rest) last → IsDot (front ++ rest) (dot_from rest (length front) last)

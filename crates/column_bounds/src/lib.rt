@@ -2,10 +2,14 @@
 #![tactic(auto)]
 
 mod bound;
+mod laws;
 mod stats;
 #[cfg(test)]
 mod tests;
+mod writing;
 
 pub use bound::read_bound;
+pub use laws::a_written_bound_is_read_again;
 pub use row_values::{Kind, List, Value};
 pub use stats::{ColumnStats, Stats, Summary};
+pub use writing::write_bound;

@@ -1,4 +1,4 @@
-use crate::{Kind, List, Value, read_bound};
+use crate::{Kind, List, Value, read_bound, write_bound};
 use row_values::Text;
 use std::alloc::{AllocError, Global};
 use std::test::Fail;
@@ -71,6 +71,29 @@ fn each_bound_is_the_value_of_its_bytes(rt: HostRuntime) -> Result<(), Fail> {
     for case in cases.into_vec() {
         let Case { kind, bytes, want } = case;
         assert!(rt; read_bound(alloc, kind, bytes)? == want, "{bytes:?}");
+    }
+    Ok(())
+}
+
+#[test]
+fn each_bound_is_written_as_its_bytes(rt: HostRuntime) -> Result<(), Fail> {
+    let alloc = rt.alloc();
+    let cases: [(Value, &[u8]); 4] = [
+        (Value::Bool(true), b"\x01"),
+        (Value::Date(34), b"\x22\x00\x00\x00"),
+        (
+            Value::Decimal {
+                unscaled: -1,
+                scale: 2,
+            },
+            b"\xff",
+        ),
+        (Value::Text(Text::copy_of(alloc, "ice")?), b"ice"),
+    ];
+    for (value, want) in cases.iter() {
+        let mut out = Vec::new(alloc);
+        write_bound(value, &mut out)?;
+        assert!(rt; out.as_slice() == *want, "{value:?}");
     }
     Ok(())
 }

@@ -1,6 +1,6 @@
 -- The first version of a table that is made, or the status of what is wrong: with the schema file's name first, then with
 -- the place of the table, then with what the file says.
-use Rattle.std.specs.Prelude.{◌≡◌, ℕ, ℤ, ◌^◌, ◌&&◌, List, Option, Some, None, is_some, Result, Ok, Err, ⊤, if◌then◌else◌}
+use Rattle.std.specs.Prelude.{◌≡◌, ℕ, ℤ, ◌^◌, ◌&&◌, Bool, List, Option, Some, None, is_some, Result, Ok, Err, ⊤, if◌then◌else◌}
 use Rattle.std.specs.FinMap as map
 use Rattle.std.specs.List.{list_all}
 use Rattle.plain_types.specs.Steps.{◌>>=◌, fault_if, fault_as, by_option}

@@ -1,8 +1,8 @@
 // Makes the first version of a table.
-ghost use Rattle.std.specs.Prelude.{◌≡◌, ℕ, Option, None, Some, Ok, Err, IfOk, IfErr, OnOk};
+ghost use Rattle.std.specs.Prelude.{◌≡◌, ℕ, List, Option, None, Some, Ok, Err, IfOk, IfErr, OnOk};
 ghost use Rattle.std.specs.Option.{ForSome};
 ghost use Rattle.store_core.specs.Files.{Files, KeepsFiles};
-ghost use Rattle.table_definition.specs.Definition.{asked};
+ghost use Rattle.table_definition.specs.Definition.{asked, definition_of};
 ghost use Rattle.table_names.specs.Versions.{version_of};
 ghost use Rattle.dml_program.specs.Answers.{Carries, Leaves, Prints, Told, create_answer, so_far};
 ghost use Rattle.dml_program.specs.Causes.{HasInputCause, HasStoreCause, IsFormStop, IsSettled, IsStop};
@@ -150,6 +150,7 @@ fn check_not_compressed<S: Store>(alloc: Global, store: &mut S, table: &str) -> 
 #[tactic(auto, unfolding(crate::specs::Creating::asked_by))]
 fn read_asked(alloc: Global, bytes: Option<Blob>) -> Result<Definition, Status>
     ensures found { IfOk result (λ d. asked_by bytes ≡ Ok (asked d)) }
+    ensures text { IfOk result (λ d. (text : List ℕ) × (definition_of text ≡ Ok (asked d))) }
     ensures refused { IfErr result (Stops (asked_by bytes)) }
     ensures kind { IfErr result IsFormStop }
 {

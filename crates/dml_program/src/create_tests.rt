@@ -18,7 +18,8 @@ const SCHEMA: &[u8] = b"{\"schema\":{\"type\":\"struct\",\"schema-id\":0,\"field
 const VERSION: &str = "h/metadata/v1.metadata.json";
 
 /// The first version of a table of this schema, made 1,700,000,000,000 milliseconds after 1970 began.
-const TEXT: &str = r#"{"current-schema-id":0,"default-sort-order-id":0,"default-spec-id":0,"format-version":2,"last-column-id":2,"last-partition-id":999,"last-sequence-number":0,"last-updated-ms":1700000000000,"location":"h","partition-specs":[{"fields":[],"spec-id":0}],"properties":{},"schemas":[{"fields":[{"id":1,"name":"id","required":true,"type":"long"},{"doc":"who","id":2,"name":"name","required":false,"type":"string"}],"schema-id":0,"type":"struct"}],"sort-orders":[{"fields":[],"order-id":0}],"table-uuid":"29ac0894-7884-5831-8a36-17e914394540"}"#;
+const TEXT: &str =
+    r#"{"current-schema-id":0,"default-sort-order-id":0,"default-spec-id":0,"format-version":2,"last-column-id":2,"last-partition-id":999,"last-sequence-number":0,"last-updated-ms":1700000000000,"location":"h","partition-specs":[{"fields":[],"spec-id":0}],"properties":{},"schemas":[{"fields":[{"id":1,"name":"id","required":true,"type":"long"},{"doc":"who","id":2,"name":"name","required":false,"type":"string"}],"schema-id":0,"type":"struct"}],"sort-orders":[{"fields":[],"order-id":0}],"table-uuid":"29ac0894-7884-5831-8a36-17e914394540"}"#;
 
 #[derive(Drop)]
 struct Creation {
@@ -123,16 +124,35 @@ fn a_table_is_made_or_the_answer_names_why_not(rt: HostRuntime) -> Result<(), Fa
         bad_schema(b"[]"),
         bad_schema(b"{}"),
         bad_schema(b"{\"schema\":{\"schema-id\":0,\"fields\":[]}}"),
-        bad_schema(b"{\"schema\":{\"schema-id\":0,\"fields\":[{\"id\":1,\"name\":\"a\",\"required\":true,\"type\":\"long\"}]},\"other\":1}"),
-        bad_schema(b"{\"schema\":{\"schema-id\":0,\"fields\":[{\"id\":1,\"name\":\"a\",\"required\":true,\"type\":\"long\"}]},\"properties\":{\"a\":1}}"),
-        bad_schema(b"{\"schema\":{\"schema-id\":0,\"fields\":[{\"id\":1,\"name\":\"a\",\"required\":true,\"type\":\"long\"}]},\"properties\":{\"write.delete.mode\":\"no\"}}"),
-        bad_schema(b"{\"schema\":{\"schema-id\":0,\"fields\":[{\"id\":1,\"name\":\"a\",\"required\":true,\"type\":\"long\"}]},\"partition-spec\":{}}"),
-        bad_schema(b"{\"schema\":{\"schema-id\":0,\"fields\":[{\"id\":1,\"name\":\"a\",\"required\":true,\"type\":\"long\",\"x\":1.5}]}}"),
-        later(b"{\"schema\":{\"schema-id\":0,\"fields\":[{\"id\":1,\"name\":\"a\",\"required\":true,\"type\":\"int\"}]}}"),
-        later(b"{\"schema\":{\"schema-id\":0,\"fields\":[{\"id\":1,\"name\":\"a\",\"required\":true,\"type\":\"long\"}]},\"partition-spec\":[{\"source-id\":1,\"field-id\":1000,\"name\":\"a\",\"transform\":\"identity\"}]}"),
-        later(b"{\"schema\":{\"schema-id\":0,\"fields\":[{\"id\":1,\"name\":\"a\",\"required\":true,\"type\":\"long\"}]},\"properties\":{\"write.delete.mode\":\"merge-on-read\"}}"),
+        bad_schema(
+            b"{\"schema\":{\"schema-id\":0,\"fields\":[{\"id\":1,\"name\":\"a\",\"required\":true,\"type\":\"long\"}]},\"other\":1}",
+        ),
+        bad_schema(
+            b"{\"schema\":{\"schema-id\":0,\"fields\":[{\"id\":1,\"name\":\"a\",\"required\":true,\"type\":\"long\"}]},\"properties\":{\"a\":1}}",
+        ),
+        bad_schema(
+            b"{\"schema\":{\"schema-id\":0,\"fields\":[{\"id\":1,\"name\":\"a\",\"required\":true,\"type\":\"long\"}]},\"properties\":{\"write.delete.mode\":\"no\"}}",
+        ),
+        bad_schema(
+            b"{\"schema\":{\"schema-id\":0,\"fields\":[{\"id\":1,\"name\":\"a\",\"required\":true,\"type\":\"long\"}]},\"partition-spec\":{}}",
+        ),
+        bad_schema(
+            b"{\"schema\":{\"schema-id\":0,\"fields\":[{\"id\":1,\"name\":\"a\",\"required\":true,\"type\":\"long\",\"x\":1.5}]}}",
+        ),
+        later(
+            b"{\"schema\":{\"schema-id\":0,\"fields\":[{\"id\":1,\"name\":\"a\",\"required\":true,\"type\":\"int\"}]}}",
+        ),
+        later(
+            b"{\"schema\":{\"schema-id\":0,\"fields\":[{\"id\":1,\"name\":\"a\",\"required\":true,\"type\":\"long\"}]},\"partition-spec\":[{\"source-id\":1,\"field-id\":1000,\"name\":\"a\",\"transform\":\"identity\"}]}",
+        ),
+        later(
+            b"{\"schema\":{\"schema-id\":0,\"fields\":[{\"id\":1,\"name\":\"a\",\"required\":true,\"type\":\"long\"}]},\"properties\":{\"write.delete.mode\":\"merge-on-read\"}}",
+        ),
         beside(VERSION, "fault table exists h\n"),
-        beside("h/metadata/v3.gz.metadata.json", "fault table later h/metadata/v3.gz.metadata.json\n"),
+        beside(
+            "h/metadata/v3.gz.metadata.json",
+            "fault table later h/metadata/v3.gz.metadata.json\n",
+        ),
         failing(CallKind::List, nothing, false, 5, "fault store\n"),
         failing(CallKind::Swap, nothing, false, 5, "fault store\n"),
         failing(CallKind::Swap, Leave::Whole, false, 0, "created v1\n"),
@@ -158,7 +178,11 @@ fn a_table_that_was_made_has_no_rows_and_is_made_once(rt: HostRuntime) -> Result
     let mut inputs = MemoryInputs::with_files(one_file(alloc, "s.json", SCHEMA)?, 3);
     let mut clock = FixedClock::at(1_700_000_000_000);
     let words = CREATE.as_slice();
-    for (number, report) in [(0, "created v1\n"), (4, "fault table exists h\n"), (6, "fault input s.json\n")] {
+    for (number, report) in [
+        (0, "created v1\n"),
+        (4, "fault table exists h\n"),
+        (6, "fault input s.json\n"),
+    ] {
         let mut out = MemorySink::new(alloc, 128, 0)?;
         let status = run_program(alloc, words, &mut store, &mut inputs, &mut out, &mut clock);
         assert_eq!(rt; status.number(), number);
@@ -187,7 +211,14 @@ fn a_schema_file_has_at_most_a_mebibyte(rt: HostRuntime) -> Result<(), Fail> {
         let mut store = MemoryStore::new(alloc);
         let mut inputs = MemoryInputs::with_files(one_file(alloc, "s.json", bytes.as_slice())?, 0);
         let mut out = MemorySink::new(alloc, 128, 0)?;
-        let status = run_program(alloc, CREATE.as_slice(), &mut store, &mut inputs, &mut out, &mut clock);
+        let status = run_program(
+            alloc,
+            CREATE.as_slice(),
+            &mut store,
+            &mut inputs,
+            &mut out,
+            &mut clock,
+        );
         assert_eq!(rt; status.number(), number);
         assert_eq!(rt; out.bytes(), report.as_bytes());
         bytes.push(b' ')?;

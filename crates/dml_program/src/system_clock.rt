@@ -1,6 +1,6 @@
-use store_core::Clock;
 use std::io;
 use std::time::SystemTime;
+use store_core::Clock;
 
 /// The system's clock. It tells no number beforehand.
 #[derive(Drop)]

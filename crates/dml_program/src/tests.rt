@@ -4,7 +4,8 @@ use std::alloc::{AllocError, Global};
 use std::process::Abort;
 use std::test::Fail;
 use store_core::{
-    Blob, CallKind, FailAt, File, FixedClock, Leave, List, MemoryInputs, MemorySink, MemoryStore, Name,
+    Blob, CallKind, FailAt, File, FixedClock, Leave, List, MemoryInputs, MemorySink, MemoryStore,
+    Name,
 };
 
 const ROWS: [&str; 3] = ["rows", "--table", "t"];

@@ -1,5 +1,5 @@
 -- Whether bytes are a value of text.
-use Rattle.std.proofs.Common.{◌≡◌, ℕ, List, Some, None, Bool, true, false, refl}
+use Rattle.std.proofs.Common.{◌≡◌, ℕ, List, Some, None, Bool, true, false, refl, sym}
 use Rattle.std.specs.Str.{is_utf8, IsUtf8}
 use Rattle.std.proofs.lemmas.Str.{IsUtf8-from_is_utf8, is_utf8-from_IsUtf8}
 use Rattle.row_values.specs.declared.kind.Kind.TheVariants as kind
@@ -17,3 +17,6 @@ test_false bytes false e refused = e
 
 pub no_text : (bytes : List ℕ) → (IsUtf8 bytes → ⊥) → None ≡ of_kind kind.Text (value.Text bytes)
 no_text bytes refused = rw (test_false bytes (is_utf8 bytes) refl refused) refl
+
+pub is_text : (bytes : List ℕ) → IsUtf8 bytes → true ≡ is_utf8 bytes
+is_text bytes utf8 = sym (is_utf8-from_IsUtf8 bytes utf8)

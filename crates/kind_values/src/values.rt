@@ -54,7 +54,7 @@ const MOST_DIGITS: u8 = 38;
 
 /// Whether the amount has at most so many digits.
 #[tactic(auto)]
-fn has_digits(precision: u8, amount: i128) -> bool
+pub(crate) fn has_digits(precision: u8, amount: i128) -> bool
     ensures { result ≡ has_digits precision amount }
 {
     if precision > MOST_DIGITS {

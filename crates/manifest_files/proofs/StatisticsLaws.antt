@@ -36,12 +36,12 @@ other_below a b h k = grind (arith, ints, nat_tests)
 
 -- ---- columns in rising order
 
-abbrev rising : List KnownColumn → Bool
+abbrev pub rising : List KnownColumn → Bool
 rising [] = true
 rising (column ∷ columns) = list_all (λ other. int_lt column.id other.id) columns && rising columns
 
 -- a column at its place among columns in rising order
-abbrev placed : KnownColumn → List KnownColumn → List KnownColumn
+abbrev pub placed : KnownColumn → List KnownColumn → List KnownColumn
 placed column [] = column ∷ []
 placed column (first ∷ columns) = cond (int_lt first.id column.id) (first ∷ placed column columns) (cond (int_eq first.id column.id) (first ∷ columns) (column ∷ first ∷ columns))
 
@@ -62,7 +62,7 @@ step_by : (column first : KnownColumn) (columns rest : List KnownColumn) (b : Bo
 step_by column first columns rest true p q h k = rw h (cons_by (stands_at column.id q columns) first columns (insert columns q column) ∙ ap (λ (xs : List KnownColumn). first ∷ xs) k)
 step_by column first columns rest false p q h k = refl
 
-with_is_placed : (column : KnownColumn) (columns : List KnownColumn) → with_column column columns ≡ placed column columns
+pub with_is_placed : (column : KnownColumn) (columns : List KnownColumn) → with_column column columns ≡ placed column columns
 unfolding place_from
 with_is_placed column [] = refl
 with_is_placed column (first ∷ columns) = step_by column first columns (placed column columns) (int_lt first.id column.id) (place_from column.id 1 columns) (place_from column.id 0 columns) (place_shift column.id 0 columns) (with_is_placed column columns)
@@ -107,6 +107,10 @@ IsRising columns = rising columns ≡ true
 pub known_rise : (columns : List Column) → IsRising (known_columns columns)
 unfolding IsRising
 known_rise columns = rising_with path_column (with_column position_column (with_columns [] columns)) (rising_with position_column (with_columns [] columns) (rising_columns [] columns refl))
+
+pub known_rising : (columns : List Column) → rising (known_columns columns) ≡ true
+unfolding IsRising
+known_rising columns = known_rise columns
 
 -- ---- statistics
 

@@ -31,3 +31,4 @@ pub use list::read_list;
 pub use manifest::read_manifest;
 pub use manifest_fault::ManifestFault;
 pub use manifest_row::{ManifestContent, ManifestRow};
+pub use partition_kinds::kind_of_field;

@@ -36,7 +36,7 @@ fn kind_of_column(id: i32, columns: &[Column]) -> Option<Kind>
 }
 
 /// The kind of a partition field's values.
-pub(crate) fn kind_of_field(columns: &[Column], part: &PartField) -> Option<Kind>
+pub fn kind_of_field(columns: &[Column], part: &PartField) -> Option<Kind>
     ensures { result ≡ kind_of_field columns.now part.now }
 {
     let kind = kind_of_column(part.source, columns)?;

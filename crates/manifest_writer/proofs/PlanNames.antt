@@ -1,10 +1,12 @@
 -- A type whose names are ASCII and each of whose named types stands once.
-use Rattle.std.proofs.Common.{◌≡◌, ℕ, List, [], Bool, true, false, ◌&&◌, Option, Some, None, option_and_then, refl, ap, ◌∙◌}
+use Rattle.std.proofs.Common.{◌≡◌, ℕ, ◌^◌, nat_lt, List, [], Bool, true, false, ◌&&◌, Option, Some, None, option_and_then, refl, ap, ◌∙◌}
 use Rattle.std.specs.Str.{is_utf8}
 use Rattle.std.proofs.lemmas.Str.{is_utf8-from_IsUtf8}
-use Rattle.avro_binary.specs.SchemaOnce.{Begins, when, is_id, one_name, each_once, once_level, once_field_level}
+use Rattle.manifest_writer.specs.PartTypes.{decimal_size, decimal_name}
+use Rattle.avro_binary.specs.declared.schema.Logical.TheVariants.{Decimal}
+use Rattle.avro_binary.specs.SchemaOnce.{Begins, when, is_id, is_logical, one_name, each_once, once_level, once_field_level}
 use Rattle.avro_binary.proofs.JsonTexts.{are_ascii, is_text}
-use Rattle.manifest_writer.proofs.Plans.{Plan, boolean_plan, int_plan, long_plan, bytes_plan, text_plan, optional_plan, items_plan, record_plan, Plans, no_plans, more_plans, fold_plan, fold_plans}
+use Rattle.manifest_writer.proofs.Plans.{Plan, boolean_plan, int_plan, long_plan, bytes_plan, text_plan, date_plan, instant_plan, decimal_plan, pairs_plan, optional_plan, items_plan, record_plan, Plans, no_plans, more_plans, fold_plan, fold_plans}
 
 abbrev mutual
   pub named : Plan → Begins
@@ -13,6 +15,10 @@ abbrev mutual
   named long_plan begun = Some begun
   named bytes_plan begun = Some begun
   named text_plan begun = Some begun
+  named date_plan begun = Some begun
+  named (instant_plan utc) begun = Some begun
+  named (decimal_plan precision scale) begun = one_name (decimal_name precision scale) begun
+  named (pairs_plan p) begun = named p begun
   named (optional_plan p) begun = option_and_then (each_once []) (named p begun)
   named (items_plan element p) begun = named p begun
   named (record_plan name ps) begun = option_and_then (named_each ps) (one_name name begun)
@@ -28,6 +34,10 @@ abbrev mutual
   plain_names long_plan = true
   plain_names bytes_plan = true
   plain_names text_plan = true
+  plain_names date_plan = true
+  plain_names (instant_plan utc) = true
+  plain_names (decimal_plan precision scale) = are_ascii (decimal_name precision scale) && (is_logical (Decimal precision scale) && nat_lt (decimal_size precision) (2 ^ 64))
+  plain_names (pairs_plan p) = plain_names p
   plain_names (optional_plan p) = plain_names p
   plain_names (items_plan element p) = is_id (Some element) && plain_names p
   plain_names (record_plan name ps) = are_ascii name && plain_fields ps
@@ -58,6 +68,13 @@ mutual
   named_is long_plan begun h = refl
   named_is bytes_plan begun h = refl
   named_is text_plan begun h = refl
+  named_is date_plan begun h = refl
+  named_is (instant_plan utc) begun h = refl
+  named_is (decimal_plan precision scale) begun h =
+      let later : Bool = is_logical (Decimal precision scale) && nat_lt (decimal_size precision) (2 ^ 64) in
+      ap (λ (b : Bool). when (b && later) (one_name (decimal_name precision scale)) begun) (utf8 (decimal_name precision scale) (first (are_ascii (decimal_name precision scale)) later h))
+      ∙ ap (λ (b : Bool). when b (one_name (decimal_name precision scale)) begun) (second (are_ascii (decimal_name precision scale)) later h)
+  named_is (pairs_plan p) begun h = named_is p begun h
   named_is (optional_plan p) begun h = ap (option_and_then (each_once [])) (named_is p begun h)
   named_is (items_plan element p) begun h = ap (λ (b : Bool). when b (fold_plan Begins Begins once_level once_field_level p) begun) (first (is_id (Some element)) (plain_names p) h) ∙ named_is p begun (second (is_id (Some element)) (plain_names p) h)
   named_is (record_plan name ps) begun h = ap (λ (b : Bool). when b (λ xs. option_and_then (each_once (fold_plans Begins Begins once_level once_field_level ps)) (one_name name xs)) begun) (utf8 name (first (are_ascii name) (plain_fields ps) h))

@@ -1,12 +1,13 @@
 -- Types that are put together from a few, and a fold over them, which computes.
-use Rattle.std.proofs.Common.{◌≡◌, ℕ, ℤ, false, List, [], ◌∷◌, map, Some, refl, sym, ap, ◌∙◌}
+use Rattle.std.proofs.Common.{◌≡◌, ℕ, ℤ, Bool, true, false, List, [], ◌∷◌, map, Some, None, refl, sym, ap, ◌∙◌}
 use Rattle.avro_binary.specs.declared.schema.Field.{Field, fold-Field}
 use Rattle.avro_binary.specs.declared.schema.Schema.{Schema, fold-Schema}
 use Rattle.avro_binary.specs.declared.schema.Schema.TheFolds.{fold-roll-Schema, fold_out-Field}
 use Rattle.avro_binary.specs.declared.schema.Schema.TheOpen as open_schema
 use Rattle.avro_binary.specs.declared.schema.Schema.TheVariants as schema
-use Rattle.avro_binary.specs.declared.schema.Logical.TheVariants.{Plain}
-use Rattle.manifest_writer.specs.Field.{field, optional_type, items_type, record_type}
+use Rattle.avro_binary.specs.declared.schema.Logical.TheVariants.{Plain, Date, TimestampMicros, Decimal}
+use Rattle.manifest_writer.specs.Field.{field, optional_type, items_type, map_type, record_type}
+use Rattle.manifest_writer.specs.PartTypes.{decimal_size, decimal_name}
 
 mutual
   pub data Plan : Type 0 where
@@ -15,6 +16,10 @@ mutual
     long_plan : Plan
     bytes_plan : Plan
     text_plan : Plan
+    date_plan : Plan
+    instant_plan : Bool → Plan
+    decimal_plan : ℕ → ℕ → Plan
+    pairs_plan : Plan → Plan
     optional_plan : Plan → Plan
     items_plan : ℤ → Plan → Plan
     record_plan : List ℕ → Plans → Plan
@@ -30,6 +35,10 @@ abbrev mutual
   type_of long_plan = schema.Long Plain
   type_of bytes_plan = schema.Bytes Plain
   type_of text_plan = schema.Text
+  type_of date_plan = schema.Int Date
+  type_of (instant_plan utc) = schema.Long (TimestampMicros utc)
+  type_of (decimal_plan precision scale) = schema.Fixed (decimal_name precision scale) (decimal_size precision) (Decimal precision scale)
+  type_of (pairs_plan p) = map_type (type_of p)
   type_of (optional_plan p) = optional_type (type_of p)
   type_of (items_plan element p) = items_type element (type_of p)
   type_of (record_plan name ps) = record_type name (types_of ps)
@@ -45,6 +54,10 @@ abbrev mutual
   fold_plan A B f g long_plan = f (open_schema.Long Plain)
   fold_plan A B f g bytes_plan = f (open_schema.Bytes Plain)
   fold_plan A B f g text_plan = f open_schema.Text
+  fold_plan A B f g date_plan = f (open_schema.Int Date)
+  fold_plan A B f g (instant_plan utc) = f (open_schema.Long (TimestampMicros utc))
+  fold_plan A B f g (decimal_plan precision scale) = f (open_schema.Fixed (decimal_name precision scale) (decimal_size precision) (Decimal precision scale))
+  fold_plan A B f g (pairs_plan p) = f (open_schema.Array (fold_plan A B f g p) None true)
   fold_plan A B f g (optional_plan p) = f (open_schema.Union (f open_schema.Null ∷ fold_plan A B f g p ∷ []))
   fold_plan A B f g (items_plan element p) = f (open_schema.Array (fold_plan A B f g p) (Some element) false)
   fold_plan A B f g (record_plan name ps) = f (open_schema.Record name (fold_plans A B f g ps))
@@ -63,6 +76,11 @@ mutual
   plan_folds A B f g long_plan = ap (fold-Schema A B f g) (sym (schema.rolls-Long Plain)) ∙ fold-roll-Schema A B f g (open_schema.Long Plain)
   plan_folds A B f g bytes_plan = ap (fold-Schema A B f g) (sym (schema.rolls-Bytes Plain)) ∙ fold-roll-Schema A B f g (open_schema.Bytes Plain)
   plan_folds A B f g text_plan = ap (fold-Schema A B f g) (sym schema.rolls-Text) ∙ fold-roll-Schema A B f g open_schema.Text
+  plan_folds A B f g date_plan = ap (fold-Schema A B f g) (sym (schema.rolls-Int Date)) ∙ fold-roll-Schema A B f g (open_schema.Int Date)
+  plan_folds A B f g (instant_plan utc) = ap (fold-Schema A B f g) (sym (schema.rolls-Long (TimestampMicros utc))) ∙ fold-roll-Schema A B f g (open_schema.Long (TimestampMicros utc))
+  plan_folds A B f g (decimal_plan precision scale) = ap (fold-Schema A B f g) (sym (schema.rolls-Fixed (decimal_name precision scale) (decimal_size precision) (Decimal precision scale))) ∙ fold-roll-Schema A B f g (open_schema.Fixed (decimal_name precision scale) (decimal_size precision) (Decimal precision scale))
+  plan_folds A B f g (pairs_plan p) = ap (fold-Schema A B f g) (sym (schema.rolls-Array (type_of p) None true)) ∙ fold-roll-Schema A B f g (open_schema.Array (type_of p) None true)
+      ∙ ap (λ (x : A). f (open_schema.Array x None true)) (plan_folds A B f g p)
   plan_folds A B f g (optional_plan p) = ap (fold-Schema A B f g) (sym (schema.rolls-Union (schema.Null ∷ type_of p ∷ []))) ∙ fold-roll-Schema A B f g (open_schema.Union (schema.Null ∷ type_of p ∷ []))
       ∙ ap (λ (x : A). f (open_schema.Union (x ∷ fold-Schema A B f g (type_of p) ∷ []))) (null_is A B f g) ∙ ap (λ (x : A). f (open_schema.Union (f open_schema.Null ∷ x ∷ []))) (plan_folds A B f g p)
   plan_folds A B f g (items_plan element p) = ap (fold-Schema A B f g) (sym (schema.rolls-Array (type_of p) (Some element) false)) ∙ fold-roll-Schema A B f g (open_schema.Array (type_of p) (Some element) false)

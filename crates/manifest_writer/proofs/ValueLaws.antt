@@ -17,31 +17,34 @@ use Rattle.manifest_files.specs.Datums.{present_in, int_level, int_in, long_leve
 use Rattle.manifest_files.specs.Lists.{not_negative}
 use Rattle.manifest_writer.specs.Value.{optional, optional_int, optional_long, bytes_inside, optional_bound, is_count, is_bound}
 
-null_out : out-Datum datum.Null ≡ open_datum.Null
+pub null_out : out-Datum datum.Null ≡ open_datum.Null
 null_out = ap out-Datum (sym datum.rolls-Null) ∙ out-roll-Datum open_datum.Null
 
-boolean_out : (b : Bool) → out-Datum (datum.Boolean b) ≡ open_datum.Boolean b
+pub boolean_out : (b : Bool) → out-Datum (datum.Boolean b) ≡ open_datum.Boolean b
 boolean_out b = ap out-Datum (sym (datum.rolls-Boolean b)) ∙ out-roll-Datum (open_datum.Boolean b)
 
-int_out : (n : ℤ) → out-Datum (datum.Int n) ≡ open_datum.Int n
+pub int_out : (n : ℤ) → out-Datum (datum.Int n) ≡ open_datum.Int n
 int_out n = ap out-Datum (sym (datum.rolls-Int n)) ∙ out-roll-Datum (open_datum.Int n)
 
-long_out : (n : ℤ) → out-Datum (datum.Long n) ≡ open_datum.Long n
+pub long_out : (n : ℤ) → out-Datum (datum.Long n) ≡ open_datum.Long n
 long_out n = ap out-Datum (sym (datum.rolls-Long n)) ∙ out-roll-Datum (open_datum.Long n)
 
-bytes_out : (bytes : List ℕ) → out-Datum (datum.Bytes bytes) ≡ open_datum.Bytes bytes
+pub bytes_out : (bytes : List ℕ) → out-Datum (datum.Bytes bytes) ≡ open_datum.Bytes bytes
 bytes_out bytes = ap out-Datum (sym (datum.rolls-Bytes bytes)) ∙ out-roll-Datum (open_datum.Bytes bytes)
 
-text_out : (bytes : List ℕ) → out-Datum (datum.Text bytes) ≡ open_datum.Text bytes
+pub text_out : (bytes : List ℕ) → out-Datum (datum.Text bytes) ≡ open_datum.Text bytes
 text_out bytes = ap out-Datum (sym (datum.rolls-Text bytes)) ∙ out-roll-Datum (open_datum.Text bytes)
 
-record_out : (ds : List Datum) → out-Datum (datum.Record ds) ≡ open_datum.Record ds
+pub fixed_out : (bytes : List ℕ) → out-Datum (datum.Fixed bytes) ≡ open_datum.Fixed bytes
+fixed_out bytes = ap out-Datum (sym (datum.rolls-Fixed bytes)) ∙ out-roll-Datum (open_datum.Fixed bytes)
+
+pub record_out : (ds : List Datum) → out-Datum (datum.Record ds) ≡ open_datum.Record ds
 record_out ds = ap out-Datum (sym (datum.rolls-Record ds)) ∙ out-roll-Datum (open_datum.Record ds)
 
 pub array_out : (ds : List Datum) → out-Datum (datum.Array ds) ≡ open_datum.Array ds
 array_out ds = ap out-Datum (sym (datum.rolls-Array ds)) ∙ out-roll-Datum (open_datum.Array ds)
 
-union_out : (n : ℕ) (d : Datum) → out-Datum (datum.Union n d) ≡ open_datum.Union n d
+pub union_out : (n : ℕ) (d : Datum) → out-Datum (datum.Union n d) ≡ open_datum.Union n d
 union_out n d = ap out-Datum (sym (datum.rolls-Union n d)) ∙ out-roll-Datum (open_datum.Union n d)
 
 pub values_is : (ds : List Datum) → values_of (datum.Record ds) ≡ ds
@@ -49,13 +52,13 @@ values_is ds = ap values_level (record_out ds)
 
 -- ---- what is there
 
-there : (whole d : Datum) (x : open_datum.Datum-F Datum MapPair) → inside whole ≡ d → out-Datum d ≡ x → is_null_datum x ≡ false → present_in whole ≡ Some d
+pub there : (whole d : Datum) (x : open_datum.Datum-F Datum MapPair) → inside whole ≡ d → out-Datum d ≡ x → is_null_datum x ≡ false → present_in whole ≡ Some d
 there whole d x within e h = ap (λ (i : Datum). if is_null_datum (out-Datum i) then None else Some i) within ∙ ap (λ (y : open_datum.Datum-F Datum MapPair). if is_null_datum y then None else Some d) e ∙ ap (λ (b : Bool). if b then None else Some d) h
 
-alone : (d : Datum) (x : open_datum.Datum-F Datum MapPair) → out-Datum d ≡ x → is_null_datum x ≡ false → inside_level d x ≡ d → present_in d ≡ Some d
+pub alone : (d : Datum) (x : open_datum.Datum-F Datum MapPair) → out-Datum d ≡ x → is_null_datum x ≡ false → inside_level d x ≡ d → present_in d ≡ Some d
 alone d x e h within = there d d x (ap (inside_level d) e ∙ within) e h
 
-branch : (d : Datum) (x : open_datum.Datum-F Datum MapPair) → out-Datum d ≡ x → is_null_datum x ≡ false → present_in (optional (Some d)) ≡ Some d
+pub branch : (d : Datum) (x : open_datum.Datum-F Datum MapPair) → out-Datum d ≡ x → is_null_datum x ≡ false → present_in (optional (Some d)) ≡ Some d
 branch d x e h = there (datum.Union 1 d) d x (ap (inside_level (datum.Union 1 d)) (union_out 1 d)) e h
 
 absent : present_in (optional None) ≡ None
@@ -63,6 +66,24 @@ absent = ap (λ (i : Datum). if is_null_datum (out-Datum i) then None else Some 
 
 pub record_there : (ds : List Datum) → present_in (datum.Record ds) ≡ Some (datum.Record ds)
 record_there ds = alone (datum.Record ds) (open_datum.Record ds) (record_out ds) refl refl
+
+pub null_absent : present_in (optional None) ≡ None
+null_absent = absent
+
+pub long_there : (n : ℤ) → present_in (datum.Long n) ≡ Some (datum.Long n)
+long_there n = alone (datum.Long n) (open_datum.Long n) (long_out n) refl refl
+
+pub bytes_there : (bytes : List ℕ) → present_in (datum.Bytes bytes) ≡ Some (datum.Bytes bytes)
+bytes_there bytes = alone (datum.Bytes bytes) (open_datum.Bytes bytes) (bytes_out bytes) refl refl
+
+pub long_value : (n : ℤ) → long_in (datum.Long n) ≡ Some n
+long_value n = ap long_level (long_out n)
+
+pub bytes_value : (bytes : List ℕ) → bytes_in (datum.Bytes bytes) ≡ Some bytes
+bytes_value bytes = ap bytes_level (bytes_out bytes)
+
+pub text_value : (bytes : List ℕ) → option_and_then text_in (present_in (datum.Text bytes)) ≡ Some bytes
+text_value bytes = ap (option_and_then text_in) (alone (datum.Text bytes) (open_datum.Text bytes) (text_out bytes) refl refl) ∙ ap text_level (text_out bytes)
 
 pub array_there : (ds : List Datum) → present_in (optional (Some (datum.Array ds))) ≡ Some (datum.Array ds)
 array_there ds = branch (datum.Array ds) (open_datum.Array ds) (array_out ds) refl

@@ -1,9 +1,14 @@
--- The type of the entries of a manifest of an unpartitioned table (Iceberg specification, "Manifests").
+-- The type of the entries of a manifest (Iceberg specification, "Manifests").
 use Rattle.std.specs.Prelude.{ℕ, ℤ, pos, List, [], ◌∷◌, ◌++◌, codes}
 use Rattle.avro_binary.specs.declared.schema.Field.{Field}
 use Rattle.avro_binary.specs.declared.schema.Schema.{Schema}
 use Rattle.avro_binary.specs.declared.schema.Schema.TheVariants as schema
 use Rattle.avro_binary.specs.declared.schema.Logical.TheVariants.{Plain}
+use Rattle.row_values.specs.declared.schema.TableSchema.{TableSchema}
+use Rattle.row_values.specs.declared.partition.Spec.{Spec}
+use Rattle.manifest_writer.specs.declared.fact.Fact.TheVariants as fact
+use Rattle.manifest_writer.specs.Facts.{fact_field}
+use Rattle.manifest_writer.specs.PartTypes.{part_fields}
 use Rattle.manifest_writer.specs.Field.{field, optional_type, items_type, record_type}
 
 abbrev pub optional_long : ℤ → List ℕ → Field
@@ -12,9 +17,8 @@ optional_long id name = field id name (optional_type (schema.Long Plain))
 abbrev pub number_fields : List Field
 number_fields = field (pos 0) (codes "status") (schema.Int Plain) ∷ optional_long (pos 1) (codes "snapshot_id") ∷ optional_long (pos 3) (codes "sequence_number") ∷ optional_long (pos 4) (codes "file_sequence_number") ∷ []
 
--- no value
-abbrev pub partition_field : Field
-partition_field = field (pos 102) (codes "partition") (record_type (codes "r102") [])
+abbrev pub partition_field : List Field → Field
+partition_field parts = field (pos 102) (codes "partition") (record_type (codes "r102") parts)
 
 abbrev pub ids_field : Field
 ids_field = field (pos 135) (codes "equality_ids") (optional_type (items_type (pos 136) (schema.Int Plain)))
@@ -22,14 +26,21 @@ ids_field = field (pos 135) (codes "equality_ids") (optional_type (items_type (p
 abbrev pub referenced_field : Field
 referenced_field = field (pos 143) (codes "referenced_data_file") (optional_type schema.Text)
 
-abbrev pub file_head_fields : List Field
-file_head_fields = field (pos 134) (codes "content") (schema.Int Plain) ∷ field (pos 100) (codes "file_path") schema.Text ∷ field (pos 101) (codes "file_format") schema.Text ∷ partition_field ∷ []
+abbrev pub file_head_fields : List Field → List Field
+file_head_fields parts = field (pos 134) (codes "content") (schema.Int Plain) ∷ field (pos 100) (codes "file_path") schema.Text ∷ field (pos 101) (codes "file_format") schema.Text ∷ partition_field parts ∷ []
 
-abbrev pub file_fields : List Field
-file_fields = file_head_fields ++ field (pos 103) (codes "record_count") (schema.Long Plain) ∷ field (pos 104) (codes "file_size_in_bytes") (schema.Long Plain) ∷ ids_field ∷ referenced_field ∷ []
+abbrev pub fact_fields : List Field
+fact_fields = fact_field fact.Values ∷ fact_field fact.Nulls ∷ fact_field fact.Lower ∷ fact_field fact.Upper ∷ []
 
-abbrev pub file_field : Field
-file_field = field (pos 2) (codes "data_file") (record_type (codes "r2") file_fields)
+abbrev pub file_fields : List Field → List Field
+file_fields parts = file_head_fields parts ++ field (pos 103) (codes "record_count") (schema.Long Plain) ∷ field (pos 104) (codes "file_size_in_bytes") (schema.Long Plain) ∷ [] ++ fact_fields ++ ids_field ∷ referenced_field ∷ []
 
-abbrev pub entry_types : Schema
-entry_types = record_type (codes "manifest_entry") (number_fields ++ file_field ∷ [])
+abbrev pub file_field : List Field → Field
+file_field parts = field (pos 2) (codes "data_file") (record_type (codes "r2") (file_fields parts))
+
+-- the type, with these fields of the partition
+abbrev pub types_with : List Field → Schema
+types_with parts = record_type (codes "manifest_entry") (number_fields ++ file_field parts ∷ [])
+
+abbrev pub entry_types : Spec → TableSchema → Schema
+entry_types spec schema = types_with (part_fields schema.columns spec.fields)

@@ -1,6 +1,12 @@
 pub mod EntryDatum
 pub mod EntryTypes
+pub mod Facts
 pub mod Field
 pub mod ListDatum
 pub mod ListTypes
+pub mod ManifestMeta
+pub mod PartDatum
+pub mod PartNames
+pub mod PartTypes
+pub mod Readable
 pub mod Value

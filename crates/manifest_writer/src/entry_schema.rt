@@ -1,9 +1,13 @@
-//! The type of the entries of a manifest of an unpartitioned table.
+//! The type of the entries of a manifest.
 ghost use Rattle.std.specs.Prelude.{◌≡◌, IfOk};
-ghost use Rattle.manifest_writer.specs.EntryTypes.{optional_long, ids_field, referenced_field, partition_field, number_fields, file_head_fields, file_fields, file_field, entry_types};
+ghost use Rattle.manifest_writer.specs.EntryTypes.{optional_long, ids_field, referenced_field, partition_field, number_fields, file_head_fields, fact_fields, file_fields, file_field, types_with, entry_types};
 
+use crate::fact::Fact;
+use crate::fact_schema::fact_field;
 use crate::field::{field, items_type, optional_type, record_type};
+use crate::part_schema::part_fields;
 use avro_binary::{Field, Logical, Schema};
+use row_values::{Spec, TableSchema};
 use std::alloc::{AllocError, Global};
 
 fn optional_long(alloc: Global, id: i32, name: &[u8]) -> Result<Field, AllocError>
@@ -28,10 +32,10 @@ fn referenced_field(alloc: Global) -> Result<Field, AllocError>
     field(alloc, 143, b"referenced_data_file", schema)
 }
 
-fn partition_field(alloc: Global) -> Result<Field, AllocError>
-    ensures { IfOk result (λ f. f ≡ partition_field) }
+fn partition_field(alloc: Global, parts: Vec<Field>) -> Result<Field, AllocError>
+    ensures { IfOk result (λ f. f ≡ partition_field parts.items) }
 {
-    let schema = record_type(alloc, b"r102", Vec::new(alloc))?;
+    let schema = record_type(alloc, b"r102", parts)?;
     field(alloc, 102, b"partition", schema)
 }
 
@@ -46,41 +50,65 @@ fn number_fields(alloc: Global) -> Result<Vec<Field>, AllocError>
     Ok(fields)
 }
 
-fn file_head_fields(alloc: Global) -> Result<Vec<Field>, AllocError>
-    ensures { IfOk result (λ fields. fields.items ≡ file_head_fields) }
+fn file_head_fields(alloc: Global, parts: Vec<Field>) -> Result<Vec<Field>, AllocError>
+    ensures { IfOk result (λ fields. fields.items ≡ file_head_fields parts.items) }
 {
     let mut fields = Vec::new(alloc);
     fields.push(field(alloc, 134, b"content", Schema::Int(Logical::Plain))?)?;
     fields.push(field(alloc, 100, b"file_path", Schema::Text)?)?;
     fields.push(field(alloc, 101, b"file_format", Schema::Text)?)?;
-    fields.push(partition_field(alloc)?)?;
+    fields.push(partition_field(alloc, parts)?)?;
     Ok(fields)
 }
 
-fn file_fields(alloc: Global) -> Result<Vec<Field>, AllocError>
-    ensures { IfOk result (λ fields. fields.items ≡ file_fields) }
+fn fact_fields(alloc: Global) -> Result<Vec<Field>, AllocError>
+    ensures { IfOk result (λ fields. fields.items ≡ fact_fields) }
 {
-    let mut fields = file_head_fields(alloc)?;
+    let mut fields = Vec::new(alloc);
+    fields.push(fact_field(alloc, Fact::Values)?)?;
+    fields.push(fact_field(alloc, Fact::Nulls)?)?;
+    fields.push(fact_field(alloc, Fact::Lower)?)?;
+    fields.push(fact_field(alloc, Fact::Upper)?)?;
+    Ok(fields)
+}
+
+fn file_fields(alloc: Global, parts: Vec<Field>) -> Result<Vec<Field>, AllocError>
+    ensures { IfOk result (λ fields. fields.items ≡ file_fields parts.items) }
+{
+    let mut fields = file_head_fields(alloc, parts)?;
     let count = Schema::Long(Logical::Plain);
     fields.push(field(alloc, 103, b"record_count", count)?)?;
     let size = Schema::Long(Logical::Plain);
     fields.push(field(alloc, 104, b"file_size_in_bytes", size)?)?;
+    let mut facts = fact_fields(alloc)?;
+    fields.append(&mut facts)?;
     fields.push(ids_field(alloc)?)?;
     fields.push(referenced_field(alloc)?)?;
     Ok(fields)
 }
 
-fn file_field(alloc: Global) -> Result<Field, AllocError>
-    ensures { IfOk result (λ f. f ≡ file_field) }
+fn file_field(alloc: Global, parts: Vec<Field>) -> Result<Field, AllocError>
+    ensures { IfOk result (λ f. f ≡ file_field parts.items) }
 {
-    let schema = record_type(alloc, b"r2", file_fields(alloc)?)?;
+    let schema = record_type(alloc, b"r2", file_fields(alloc, parts)?)?;
     field(alloc, 2, b"data_file", schema)
 }
 
-pub(crate) fn entry_schema(alloc: Global) -> Result<Schema, AllocError>
-    ensures { IfOk result (λ s. s ≡ entry_types) }
+fn types_with(alloc: Global, parts: Vec<Field>) -> Result<Schema, AllocError>
+    ensures { IfOk result (λ s. s ≡ types_with parts.items) }
 {
     let mut fields = number_fields(alloc)?;
-    fields.push(file_field(alloc)?)?;
+    fields.push(file_field(alloc, parts)?)?;
     record_type(alloc, b"manifest_entry", fields)
+}
+
+pub(crate) fn entry_schema(
+    alloc: Global,
+    spec: &Spec,
+    schema: &TableSchema,
+) -> Result<Schema, AllocError>
+    ensures { IfOk result (λ s. s ≡ entry_types spec.now schema.now) }
+{
+    let parts = part_fields(alloc, schema.columns.as_slice(), spec.fields.as_slice())?;
+    types_with(alloc, parts)
 }

@@ -1,6 +1,6 @@
 //! Types of the fields of a record.
 ghost use Rattle.std.specs.Prelude.{◌≡◌, IfOk};
-ghost use Rattle.manifest_writer.specs.Field.{field, optional_type, items_type, record_type};
+ghost use Rattle.manifest_writer.specs.Field.{field, optional_type, items_type, map_type, record_type};
 
 use avro_binary::{Boxed, Field, Items, Octets, Schema};
 use std::alloc::{AllocError, Global};
@@ -38,6 +38,17 @@ pub(crate) fn items_type(alloc: Global, element: i32, schema: Schema) -> Result<
         items: Boxed::new(alloc, schema)?,
         element: Some(element),
         map: false,
+    })
+}
+
+/// An array that stands for a map with keys of any type.
+pub(crate) fn map_type(alloc: Global, schema: Schema) -> Result<Schema, AllocError>
+    ensures { IfOk result (λ s. s ≡ map_type schema) }
+{
+    Ok(Schema::Array {
+        items: Boxed::new(alloc, schema)?,
+        element: None,
+        map: true,
     })
 }
 

@@ -1,9 +1,9 @@
 //! A list and a manifest that are written and read again.
 
 use crate::{write_list, write_manifest};
-use column_bounds::{Stats, Summary};
+use column_bounds::{ColumnStats, Stats, Summary};
 use manifest_files::{Content, Entry, ManifestContent, ManifestRow, read_list, read_manifest};
-use row_values::{Bytes, List, Spec, TableSchema, Text, Value};
+use row_values::{Bytes, Column, Kind, List, PartField, Spec, TableSchema, Text, Transform, Value};
 use std::alloc::{AllocError, Global};
 
 fn summary(alloc: Global) -> Result<Summary, AllocError> {
@@ -54,6 +54,40 @@ fn a_list_is_read_again(rt: HostRuntime) {
     assert!(rt; list_comes_back(rt.alloc()));
 }
 
+/// What is known of the column 2, and of the path column of delete files.
+fn stats(alloc: Global) -> Result<Stats, AllocError> {
+    let mut columns = List::new(alloc);
+    columns.push(ColumnStats {
+        id: 2,
+        values: Some(5),
+        nulls: None,
+        lower: Some(amount(-1)),
+        upper: Some(amount(1420)),
+    })?;
+    columns.push(ColumnStats {
+        id: 2147483546,
+        values: None,
+        nulls: Some(0),
+        lower: None,
+        upper: Some(Value::Text(Text::copy_of(alloc, "d")?)),
+    })?;
+    Ok(Stats { columns })
+}
+
+fn amount(unscaled: i128) -> Value {
+    Value::Decimal { unscaled, scale: 2 }
+}
+
+/// A date, an amount, NULL and NULL under a void transform.
+fn partition(alloc: Global) -> Result<List<Value>, AllocError> {
+    let mut values = List::new(alloc);
+    values.push(Value::Date(19000))?;
+    values.push(amount(-129))?;
+    values.push(Value::Null)?;
+    values.push(Value::Null)?;
+    Ok(values)
+}
+
 /// An entry with this status, whose sequence number is the row's.
 fn entry(alloc: Global, status: u8) -> Result<Entry, AllocError> {
     let mut equality_ids = List::new(alloc);
@@ -66,26 +100,62 @@ fn entry(alloc: Global, status: u8) -> Result<Entry, AllocError> {
         content: Content::EqualityDeletes,
         path: Text::copy_of(alloc, "f")?,
         spec: 3,
-        partition: List::new(alloc),
+        partition: partition(alloc)?,
         count: 5,
         size: 90,
-        stats: Stats {
-            columns: List::new(alloc),
-        },
+        stats: stats(alloc)?,
         equality_ids,
         referenced: Some(Text::copy_of(alloc, "d")?),
     })
 }
 
+fn column(alloc: Global, id: i32, kind: Kind) -> Result<Column, AllocError> {
+    Ok(Column {
+        id,
+        name: Text::copy_of(alloc, "c")?,
+        kind,
+        required: false,
+    })
+}
+
+fn schema(alloc: Global) -> Result<TableSchema, AllocError> {
+    let mut columns = List::new(alloc);
+    let decimal = Kind::Decimal {
+        precision: 9,
+        scale: 2,
+    };
+    columns.push(column(alloc, 1, Kind::Timestamp { utc: true })?)?;
+    columns.push(column(alloc, 2, decimal)?)?;
+    Ok(TableSchema { id: 0, columns })
+}
+
+fn part(alloc: Global, source: i32, transform: Transform) -> Result<PartField, AllocError> {
+    Ok(PartField {
+        source,
+        field: 1000,
+        name: Text::copy_of(alloc, "1 c")?,
+        transform,
+    })
+}
+
+/// A day, an amount, a bucket and a void field, whose names are none of Avro.
+fn spec(alloc: Global) -> Result<Spec, AllocError> {
+    let mut fields = List::new(alloc);
+    fields.push(part(alloc, 1, Transform::Day)?)?;
+    let transforms = [Transform::Identity, Transform::Bucket(4), Transform::Void];
+    let mut id = 1001;
+    for transform in transforms {
+        let mut field = part(alloc, 2, transform)?;
+        field.field = id;
+        fields.push(field)?;
+        id += 1;
+    }
+    Ok(Spec { id: 3, fields })
+}
+
 fn entry_comes_back(alloc: Global, status: u8) -> Result<bool, AllocError> {
-    let spec = Spec {
-        id: 3,
-        fields: List::new(alloc),
-    };
-    let schema = TableSchema {
-        id: 0,
-        columns: List::new(alloc),
-    };
+    let spec = spec(alloc)?;
+    let schema = schema(alloc)?;
     let entries = [entry(alloc, status)?];
     let bytes = write_manifest(alloc, &entries, &spec, &schema)?;
     match read_manifest(alloc, bytes.as_slice(), &row(alloc)?, &spec, &schema) {

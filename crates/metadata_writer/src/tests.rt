@@ -132,27 +132,33 @@ fn what_is_committed_is_read(rt: HostRuntime) -> Result<(), Fail> {
     Ok(())
 }
 
-/// The refs that are read after the snapshot is put on the branch of the same table, with the refs listed or not.
-fn refs_on(alloc: Global, branch: &str, listed: &str) -> Result<String, Fail> {
+/// The table with its refs listed so.
+fn table_with(alloc: Global, listed: &str) -> Result<Metadata, Fail> {
     let (before, after) = TABLE.split_once(REFS).ok_or("the refs")?;
     let table = format!(in alloc; "{before}{listed}{after}")?;
-    let metadata = read_metadata(alloc, table.as_bytes())?;
+    Ok(read_metadata(alloc, table.as_bytes())?)
+}
+
+/// The metadata that is read after the snapshot is put on the branch.
+fn read_on(alloc: Global, metadata: &Metadata, branch: &str) -> Result<Metadata, Fail> {
     let snapshot = head(alloc)?;
-    let bytes = text_with_snapshot(
-        alloc,
-        &metadata,
-        branch,
-        &snapshot,
-        "r1-s-4w",
-        1600000000001,
-    )?;
-    let again = read_metadata(alloc, bytes.as_slice())?;
+    let bytes = text_with_snapshot(alloc, metadata, branch, &snapshot, "r1-s-4w", 1600000000001)?;
+    Ok(read_metadata(alloc, bytes.as_slice())?)
+}
+
+fn refs_told(alloc: Global, metadata: &Metadata) -> Result<String, AllocError> {
     let mut told = String::new(alloc);
-    for reference in again.refs.as_slice() {
+    for reference in metadata.refs.as_slice() {
         let text = format!(in alloc; "{} {},", reference.name.as_str(), reference.snapshot)?;
         told.push_str(text.as_str())?;
     }
     Ok(told)
+}
+
+fn refs_on(alloc: Global, branch: &str, listed: &str) -> Result<String, Fail> {
+    let metadata = table_with(alloc, listed)?;
+    let again = read_on(alloc, &metadata, branch)?;
+    Ok(refs_told(alloc, &again)?)
 }
 
 #[test]

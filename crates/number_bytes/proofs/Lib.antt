@@ -1,1 +1,4 @@
 pub mod Amounts
+pub mod Fewest
+pub mod Steps
+pub mod Written

@@ -1,6 +1,8 @@
 //! Whole numbers of 4 or 8 bytes, the lowest byte first.
-ghost use Rattle.std.specs.Prelude.{◌≡◌, ◌+◌, ◌*◌, ◌^◌, ◌<◌};
-ghost use Rattle.number_bytes.specs.LittleEndian.{with_sign, int_of, long_of};
+ghost use Rattle.std.specs.Prelude.{◌≡◌, ◌+◌, ◌++◌, ◌*◌, ◌^◌, ◌<◌, OnOk};
+ghost use Rattle.number_bytes.specs.LittleEndian.{with_sign, int_of, long_of, lowest_first, without_sign, int_bytes, long_bytes};
+
+use std::alloc::AllocError;
 
 /// The number of 32 bits that stands for this one.
 fn with_sign_32(number: u32) -> i32
@@ -67,4 +69,44 @@ pub fn long_of(bytes: &[u8]) -> Option<i64>
         ))),
         _ => None,
     }
+}
+
+/// Appends so many bytes of a number.
+#[tactic(auto, using(crate::proofs::Steps::lowest_begin), unfolding(crate::specs::LittleEndian::lowest_first))]
+fn write_lowest_first(count: u8, number: u64, out: &mut Vec<u8>) -> Result<(), AllocError>
+    ensures { OnOk result (out.new.items ≡ out.old.items ++ lowest_first count number) }
+{
+    if count == 0 {
+        return Ok(());
+    }
+    out.push((number % 256) as u8)?;
+    write_lowest_first(count - 1, number / 256, out)
+}
+
+/// The number of 32 bits that stands for this one.
+fn without_sign_32(number: i32) -> u32
+    ensures { result ≡ without_sign (2 ^ 31) number }
+{
+    number.cast_unsigned()
+}
+
+/// Appends the four bytes of a whole number in little-endian two's complement.
+pub fn write_int(number: i32, out: &mut Vec<u8>) -> Result<(), AllocError>
+    ensures { OnOk result (out.new.items ≡ out.old.items ++ int_bytes number) }
+{
+    write_lowest_first(4, u64::from(without_sign_32(number)), out)
+}
+
+/// The number of 64 bits that stands for this one.
+fn without_sign_64(number: i64) -> u64
+    ensures { result ≡ without_sign (2 ^ 63) number }
+{
+    number.cast_unsigned()
+}
+
+/// Appends the eight bytes of a whole number in little-endian two's complement.
+pub fn write_long(number: i64, out: &mut Vec<u8>) -> Result<(), AllocError>
+    ensures { OnOk result (out.new.items ≡ out.old.items ++ long_bytes number) }
+{
+    write_lowest_first(8, without_sign_64(number), out)
 }

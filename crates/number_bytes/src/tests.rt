@@ -1,4 +1,6 @@
-use crate::{int_of, long_of, signed_of};
+use crate::{int_of, long_of, signed_of, write_int, write_long, write_signed};
+use std::alloc::Global;
+use std::test::Fail;
 
 #[test]
 fn numbers_are_read_from_their_bytes(rt: HostRuntime) {
@@ -11,4 +13,29 @@ fn numbers_are_read_from_their_bytes(rt: HostRuntime) {
     );
     assert_eq!(rt; signed_of(b"\x05\x8c"), 1420);
     assert_eq!(rt; signed_of(b"\xff"), -1);
+}
+
+fn is_written(alloc: Global, number: i128, bytes: &[u8]) -> bool {
+    let mut out = Vec::new(alloc);
+    write_signed(number, &mut out).is_ok() && out.as_slice() == bytes
+}
+
+#[test]
+fn numbers_are_written_in_the_fewest_bytes(rt: HostRuntime) {
+    let alloc = rt.alloc();
+    assert!(rt; is_written(alloc, 1420, b"\x05\x8c"));
+    assert!(rt; is_written(alloc, -1, b"\xff"));
+    assert!(rt; is_written(alloc, 0, b"\x00"));
+    assert!(rt; is_written(alloc, 128, b"\x00\x80"));
+    assert!(rt; is_written(alloc, -129, b"\xff\x7f"));
+}
+
+#[test]
+fn numbers_are_written_lowest_first(rt: HostRuntime) -> Result<(), Fail> {
+    let mut out = Vec::new(rt.alloc());
+    write_int(-2, &mut out)?;
+    write_long(34, &mut out)?;
+    let wanted = b"\xfe\xff\xff\xff\x22\x00\x00\x00\x00\x00\x00\x00";
+    assert!(rt; out.as_slice() == wanted.as_slice());
+    Ok(())
 }

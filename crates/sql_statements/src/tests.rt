@@ -100,17 +100,19 @@ fn run_where_it_fits(
     }
 }
 
-fn leaves(
-    alloc: Global,
-    statement: &Statement,
-    table: &[Pair],
-    source: &[Pair],
-    wanted: &[Pair],
-) -> bool {
-    match run(alloc, statement, table, source) {
-        Ok(left) => are_pairs(alloc, &left, wanted),
-        Err(_) => false,
-    }
+/// What a statement does to the table of a case.
+#[derive(Drop)]
+enum Outcome {
+    Leaves(&'static [Pair]),
+    Refuses(SqlRefusal),
+}
+
+#[derive(Drop)]
+struct Case {
+    label: &'static str,
+    statement: Statement,
+    source: &'static [Pair],
+    wanted: Outcome,
 }
 
 fn are_pairs(alloc: Global, left: &List<Row>, wanted: &[Pair]) -> bool {
@@ -120,15 +122,24 @@ fn are_pairs(alloc: Global, left: &List<Row>, wanted: &[Pair]) -> bool {
     }
 }
 
-fn is_refused(
-    alloc: Global,
-    statement: &Statement,
-    table: &[Pair],
-    source: &[Pair],
-    why: SqlRefusal,
-) -> bool {
-    match run(alloc, statement, table, source) {
-        Err(PlainFault::Refused(found)) => found == why,
+fn ends(alloc: Global, case: &Case) -> bool {
+    let done = run(alloc, &case.statement, TABLE.as_slice(), case.source);
+    match &case.wanted {
+        Outcome::Leaves(wanted) => is_left(alloc, done, wanted),
+        Outcome::Refuses(why) => is_refused(done, why),
+    }
+}
+
+fn is_left(alloc: Global, done: Result<List<Row>, PlainFault>, wanted: &[Pair]) -> bool {
+    match done {
+        Ok(left) => are_pairs(alloc, &left, wanted),
+        Err(_) => false,
+    }
+}
+
+fn is_refused(done: Result<List<Row>, PlainFault>, why: &SqlRefusal) -> bool {
+    match done {
+        Err(PlainFault::Refused(found)) => found == *why,
         _ => false,
     }
 }
@@ -141,7 +152,7 @@ fn is_number(op: Op, at: usize, number: i32) -> Pred {
     }
 }
 
-const TABLE: [Pair; 2] = [[Some(1), Some(10)], [Some(2), Some(20)]];
+const TABLE: [Pair; 3] = [[Some(1), Some(10)], [Some(2), Some(20)], [Some(4), None]];
 
 fn delete(alloc: Global, filter: Pred) -> Result<Statement, AllocError> {
     Ok(Statement::Delete {
@@ -150,20 +161,11 @@ fn delete(alloc: Global, filter: Pred) -> Result<Statement, AllocError> {
     })
 }
 
-#[test]
-fn a_row_of_which_the_filter_is_unknown_is_not_deleted(rt: HostRuntime) -> Result<(), AllocError> {
-    let statement = delete(rt.alloc(), is_number(Op::NotEqual, 1, 10))?;
-    let table = [[Some(1), Some(10)], [Some(2), None], [Some(3), Some(30)]];
-    let wanted = [table[0], table[1]];
-    assert!(rt; leaves(rt.alloc(), &statement, &table, &[], &wanted));
-    Ok(())
-}
-
-fn update(alloc: Global, sets: List<Set>) -> Result<Statement, AllocError> {
+fn update(alloc: Global, sets: List<Set>, filter: Pred) -> Result<Statement, AllocError> {
     Ok(Statement::Update {
         branch: Text::copy_of(alloc, "main")?,
         sets,
-        filter: Pred::Const(true),
+        filter,
     })
 }
 
@@ -171,30 +173,74 @@ fn set(column: usize, expr: Expr) -> Set {
     Set { column, expr }
 }
 
+/// SET key = n, n = key WHERE key < 4.
 fn swap(alloc: Global) -> Result<Statement, AllocError> {
-    update(
-        alloc,
-        two(alloc, set(0, Expr::Column(1)), set(1, Expr::Column(0)))?,
-    )
-}
-
-#[test]
-fn an_update_swaps_two_columns(rt: HostRuntime) -> Result<(), AllocError> {
-    let statement = swap(rt.alloc())?;
-    let wanted = [[Some(10), Some(1)], [Some(20), Some(2)]];
-    assert!(rt; leaves(rt.alloc(), &statement, &TABLE, &[], &wanted));
-    Ok(())
+    let sets = two(alloc, set(0, Expr::Column(1)), set(1, Expr::Column(0)))?;
+    update(alloc, sets, is_number(Op::Less, 0, 4))
 }
 
 fn update_to_null(alloc: Global) -> Result<Statement, AllocError> {
-    update(alloc, one(alloc, set(0, Expr::Literal(Value::Null)))?)
+    let sets = one(alloc, set(0, Expr::Literal(Value::Null)))?;
+    update(alloc, sets, Pred::Const(true))
 }
 
-#[test]
-fn null_in_a_required_column_is_refused(rt: HostRuntime) -> Result<(), AllocError> {
-    let statement = update_to_null(rt.alloc())?;
-    assert!(rt; is_refused(rt.alloc(), &statement, &TABLE, &[], SqlRefusal::Null(0)));
-    Ok(())
+fn insert(alloc: Global, key: Value, n: Value) -> Result<Statement, AllocError> {
+    let row = two(alloc, Expr::Literal(key), Expr::Literal(n))?;
+    Ok(Statement::Insert {
+        branch: Text::copy_of(alloc, "main")?,
+        rows: one(alloc, row)?,
+    })
+}
+
+fn leaves(label: &'static str, statement: Statement, left: &'static [Pair]) -> Case {
+    Case {
+        label,
+        statement,
+        source: &[],
+        wanted: Outcome::Leaves(left),
+    }
+}
+
+fn refuses(label: &'static str, statement: Statement, why: SqlRefusal) -> Case {
+    Case {
+        label,
+        statement,
+        source: &[],
+        wanted: Outcome::Refuses(why),
+    }
+}
+
+fn plain_cases(alloc: Global, cases: &mut List<Case>) -> Result<(), AllocError> {
+    cases.push(leaves(
+        "a row of which the filter is unknown is not deleted",
+        delete(alloc, is_number(Op::NotEqual, 1, 10))?,
+        &[[Some(1), Some(10)], [Some(4), None]],
+    ))?;
+    cases.push(leaves(
+        "an update swaps two columns",
+        swap(alloc)?,
+        &[[Some(10), Some(1)], [Some(20), Some(2)], [Some(4), None]],
+    ))?;
+    cases.push(refuses(
+        "NULL in a required column",
+        update_to_null(alloc)?,
+        SqlRefusal::Null(0),
+    ))?;
+    cases.push(leaves(
+        "an insert adds its row",
+        insert(alloc, Value::Int(3), Value::Null)?,
+        &[
+            [Some(1), Some(10)],
+            [Some(2), Some(20)],
+            [Some(4), None],
+            [Some(3), None],
+        ],
+    ))?;
+    cases.push(refuses(
+        "an insert of NULL into a required column",
+        insert(alloc, Value::Null, Value::Int(1))?,
+        SqlRefusal::Null(0),
+    ))
 }
 
 /// ON key = source.key.
@@ -225,79 +271,24 @@ fn update_n(alloc: Global) -> Result<Clause, AllocError> {
     Ok(clause(When::Matched, Pred::Const(true), Action::Update(sets)))
 }
 
-/// WHEN NOT MATCHED THEN INSERT (source.key, source.n).
-fn insert_row(alloc: Global) -> Result<Clause, AllocError> {
+/// WHEN NOT MATCHED AND the condition THEN INSERT (source.key, source.n).
+fn insert_row(alloc: Global, condition: Pred) -> Result<Clause, AllocError> {
     let row = two(alloc, Expr::Column(2), Expr::Column(3))?;
-    Ok(clause(When::NotMatched, Pred::Const(true), Action::Insert(row)))
+    Ok(clause(When::NotMatched, condition, Action::Insert(row)))
 }
 
 fn upsert(alloc: Global) -> Result<Statement, AllocError> {
     let update = update_n(alloc)?;
-    merge(alloc, two(alloc, update, insert_row(alloc)?)?)
+    merge(
+        alloc,
+        two(alloc, update, insert_row(alloc, Pred::Const(true))?)?,
+    )
 }
 
-const NO_MATCH: [Pair; 1] = [[Some(3), Some(30)]];
-
-const ONE_MATCH: [Pair; 1] = [[Some(2), Some(5)]];
-
-const TWO_MATCHES: [Pair; 2] = [[Some(2), Some(5)], [Some(2), Some(6)]];
-
-const NULL_KEY: [Pair; 1] = [[None, Some(5)]];
-
-#[test]
-fn a_source_row_without_a_match_is_inserted(rt: HostRuntime) -> Result<(), AllocError> {
-    let statement = upsert(rt.alloc())?;
-    let wanted = [TABLE[0], TABLE[1], NO_MATCH[0]];
-    assert!(rt; leaves(rt.alloc(), &statement, &TABLE, &NO_MATCH, &wanted));
-    Ok(())
-}
-
-#[test]
-fn a_row_with_one_match_is_updated(rt: HostRuntime) -> Result<(), AllocError> {
-    let statement = upsert(rt.alloc())?;
-    let wanted = [TABLE[0], ONE_MATCH[0]];
-    assert!(rt; leaves(rt.alloc(), &statement, &TABLE, &ONE_MATCH, &wanted));
-    Ok(())
-}
-
-#[test]
-fn an_update_of_a_row_with_two_matches_is_refused(rt: HostRuntime) -> Result<(), AllocError> {
-    let statement = upsert(rt.alloc())?;
-    let why = SqlRefusal::Cardinality;
-    assert!(rt; is_refused(rt.alloc(), &statement, &TABLE, &TWO_MATCHES, why));
-    Ok(())
-}
-
-/// The source row is for the NOT MATCHED clause, which inserts its NULL.
-#[test]
-fn a_null_key_in_the_source_matches_nothing(rt: HostRuntime) -> Result<(), AllocError> {
-    let statement = upsert(rt.alloc())?;
-    let why = SqlRefusal::Null(0);
-    assert!(rt; is_refused(rt.alloc(), &statement, &TABLE, &NULL_KEY, why));
-    Ok(())
-}
-
+/// WHEN MATCHED AND source.n = 5 THEN DELETE WHEN MATCHED THEN UPDATE SET n = source.n.
 fn delete_or_update(alloc: Global) -> Result<Statement, AllocError> {
     let delete = clause(When::Matched, is_number(Op::Equal, 3, 5), Action::Delete);
     merge(alloc, two(alloc, delete, update_n(alloc)?)?)
-}
-
-#[test]
-fn the_first_clause_that_applies_decides(rt: HostRuntime) -> Result<(), AllocError> {
-    let statement = delete_or_update(rt.alloc())?;
-    assert!(rt; leaves(rt.alloc(), &statement, &TABLE, &ONE_MATCH, &[TABLE[0]]));
-    Ok(())
-}
-
-#[test]
-fn a_clause_whose_condition_is_false_leaves_it_to_the_next(
-    rt: HostRuntime,
-) -> Result<(), AllocError> {
-    let statement = delete_or_update(rt.alloc())?;
-    let other = [[Some(2), Some(6)]];
-    let wanted = [TABLE[0], other[0]];
-    assert!(rt; leaves(rt.alloc(), &statement, &TABLE, &other, &wanted));
-    Ok(())
 }
 
 fn merge_delete(alloc: Global, when: When, condition: bool) -> Result<Statement, AllocError> {
@@ -307,51 +298,6 @@ fn merge_delete(alloc: Global, when: When, condition: bool) -> Result<Statement,
     )
 }
 
-#[test]
-fn target_rows_without_a_source_row(rt: HostRuntime) -> Result<(), AllocError> {
-    let statement = merge_delete(rt.alloc(), When::NotMatchedBySource, true)?;
-    assert!(rt; leaves(rt.alloc(), &statement, &TABLE, &ONE_MATCH, &[TABLE[1]]));
-    Ok(())
-}
-
-#[test]
-fn a_lone_delete_with_two_matches(rt: HostRuntime) -> Result<(), AllocError> {
-    let statement = merge_delete(rt.alloc(), When::Matched, true)?;
-    assert!(rt; leaves(rt.alloc(), &statement, &TABLE, &TWO_MATCHES, &[TABLE[0]]));
-    Ok(())
-}
-
-#[test]
-fn two_matches_are_refused_where_the_condition_is_false(rt: HostRuntime) -> Result<(), AllocError> {
-    let statement = merge_delete(rt.alloc(), When::Matched, false)?;
-    let why = SqlRefusal::Cardinality;
-    assert!(rt; is_refused(rt.alloc(), &statement, &TABLE, &TWO_MATCHES, why));
-    Ok(())
-}
-
-fn insert(alloc: Global, key: Value, n: Value) -> Result<Statement, AllocError> {
-    let row = two(alloc, Expr::Literal(key), Expr::Literal(n))?;
-    Ok(Statement::Insert {
-        branch: Text::copy_of(alloc, "main")?,
-        rows: one(alloc, row)?,
-    })
-}
-
-#[test]
-fn an_insert_adds_its_row(rt: HostRuntime) -> Result<(), AllocError> {
-    let statement = insert(rt.alloc(), Value::Int(3), Value::Null)?;
-    let wanted = [TABLE[0], TABLE[1], [Some(3), None]];
-    assert!(rt; leaves(rt.alloc(), &statement, &TABLE, &[], &wanted));
-    Ok(())
-}
-
-#[test]
-fn an_insert_of_null_into_a_required_column_is_refused(rt: HostRuntime) -> Result<(), AllocError> {
-    let statement = insert(rt.alloc(), Value::Null, Value::Int(1))?;
-    assert!(rt; is_refused(rt.alloc(), &statement, &TABLE, &[], SqlRefusal::Null(0)));
-    Ok(())
-}
-
 /// WHEN MATCHED THEN UPDATE SET key = NULL.
 fn merge_to_null(alloc: Global) -> Result<Statement, AllocError> {
     let sets = one(alloc, set(0, Expr::Literal(Value::Null)))?;
@@ -359,38 +305,12 @@ fn merge_to_null(alloc: Global) -> Result<Statement, AllocError> {
     merge(alloc, one(alloc, update)?)
 }
 
-#[test]
-fn a_merge_to_null_in_a_required_column_is_refused(rt: HostRuntime) -> Result<(), AllocError> {
-    let statement = merge_to_null(rt.alloc())?;
-    let why = SqlRefusal::Null(0);
-    assert!(rt; is_refused(rt.alloc(), &statement, &TABLE, &ONE_MATCH, why));
-    assert!(rt; leaves(rt.alloc(), &statement, &TABLE, &NO_MATCH, &TABLE));
-    Ok(())
-}
-
 /// WHEN NOT MATCHED AND source.n = 30 THEN INSERT (source.key, source.n).
 fn insert_where(alloc: Global) -> Result<Statement, AllocError> {
-    let row = two(alloc, Expr::Column(2), Expr::Column(3))?;
-    let condition = is_number(Op::Equal, 3, 30);
-    let insert = clause(When::NotMatched, condition, Action::Insert(row));
-    merge(alloc, one(alloc, insert)?)
-}
-
-#[test]
-fn a_source_row_that_no_clause_takes_is_not_inserted(rt: HostRuntime) -> Result<(), AllocError> {
-    let statement = insert_where(rt.alloc())?;
-    let wanted = [TABLE[0], TABLE[1], NO_MATCH[0]];
-    assert!(rt; leaves(rt.alloc(), &statement, &TABLE, &NO_MATCH, &wanted));
-    assert!(rt;
-        leaves(
-            rt.alloc(),
-            &statement,
-            &TABLE,
-            &[[Some(3), Some(31)]],
-            &TABLE
-        )
-    );
-    Ok(())
+    merge(
+        alloc,
+        one(alloc, insert_row(alloc, is_number(Op::Equal, 3, 30))?)?,
+    )
 }
 
 /// WHEN NOT MATCHED BY SOURCE AND n = 10 THEN UPDATE SET n = NULL.
@@ -401,10 +321,117 @@ fn update_without_source(alloc: Global) -> Result<Statement, AllocError> {
     merge(alloc, one(alloc, update)?)
 }
 
+fn by(source: &'static [Pair], case: Case) -> Case {
+    Case { source, ..case }
+}
+
+const ONE_MATCH: &[Pair] = &[[Some(2), Some(5)]];
+
+const TWO_MATCHES: &[Pair] = &[[Some(2), Some(5)], [Some(2), Some(6)]];
+
+fn matched_cases(alloc: Global, cases: &mut List<Case>) -> Result<(), AllocError> {
+    let updated = leaves(
+        "a row with one match is updated",
+        upsert(alloc)?,
+        &[[Some(1), Some(10)], [Some(2), Some(5)], [Some(4), None]],
+    );
+    cases.push(by(ONE_MATCH, updated))?;
+    let twice = refuses(
+        "an update of a row with two matches",
+        upsert(alloc)?,
+        SqlRefusal::Cardinality,
+    );
+    cases.push(by(TWO_MATCHES, twice))?;
+    let first = leaves(
+        "the first clause that applies decides",
+        delete_or_update(alloc)?,
+        &[[Some(1), Some(10)], [Some(4), None]],
+    );
+    cases.push(by(ONE_MATCH, first))?;
+    let next = leaves(
+        "a clause whose condition is false leaves it to the next",
+        delete_or_update(alloc)?,
+        &[[Some(1), Some(10)], [Some(2), Some(6)], [Some(4), None]],
+    );
+    cases.push(by(&[[Some(2), Some(6)]], next))?;
+    let lone = leaves(
+        "a lone delete with two matches",
+        merge_delete(alloc, When::Matched, true)?,
+        &[[Some(1), Some(10)], [Some(4), None]],
+    );
+    cases.push(by(TWO_MATCHES, lone))?;
+    let idle = refuses(
+        "two matches where the condition is false",
+        merge_delete(alloc, When::Matched, false)?,
+        SqlRefusal::Cardinality,
+    );
+    cases.push(by(TWO_MATCHES, idle))?;
+    let null = refuses(
+        "a merge to NULL in a required column",
+        merge_to_null(alloc)?,
+        SqlRefusal::Null(0),
+    );
+    cases.push(by(ONE_MATCH, null))
+}
+
+fn unmatched_cases(alloc: Global, cases: &mut List<Case>) -> Result<(), AllocError> {
+    let inserted = leaves(
+        "a source row without a match is inserted",
+        upsert(alloc)?,
+        &[
+            [Some(1), Some(10)],
+            [Some(2), Some(20)],
+            [Some(4), None],
+            [Some(3), Some(30)],
+        ],
+    );
+    cases.push(by(&[[Some(3), Some(30)]], inserted))?;
+    let null = refuses(
+        "a null key in the source matches nothing",
+        upsert(alloc)?,
+        SqlRefusal::Null(0),
+    );
+    cases.push(by(&[[None, Some(5)]], null))?;
+    let kept = leaves(
+        "a row without a match is not set to NULL",
+        merge_to_null(alloc)?,
+        &[[Some(1), Some(10)], [Some(2), Some(20)], [Some(4), None]],
+    );
+    cases.push(by(&[[Some(3), Some(30)]], kept))?;
+    let chosen = leaves(
+        "a source row that no clause takes is not inserted",
+        insert_where(alloc)?,
+        &[
+            [Some(1), Some(10)],
+            [Some(2), Some(20)],
+            [Some(4), None],
+            [Some(3), Some(30)],
+        ],
+    );
+    cases.push(by(&[[Some(3), Some(30)], [Some(5), Some(31)]], chosen))?;
+    let gone = leaves(
+        "target rows without a source row are deleted",
+        merge_delete(alloc, When::NotMatchedBySource, true)?,
+        &[[Some(2), Some(20)]],
+    );
+    cases.push(by(ONE_MATCH, gone))?;
+    let condition = leaves(
+        "a condition chooses among rows without a source row",
+        update_without_source(alloc)?,
+        &[[Some(1), None], [Some(2), Some(20)], [Some(4), None]],
+    );
+    cases.push(by(&[[Some(3), Some(30)]], condition))
+}
+
 #[test]
-fn a_condition_chooses_among_rows_without_a_source_row(rt: HostRuntime) -> Result<(), AllocError> {
-    let statement = update_without_source(rt.alloc())?;
-    let wanted = [[Some(1), None], TABLE[1]];
-    assert!(rt; leaves(rt.alloc(), &statement, &TABLE, &NO_MATCH, &wanted));
+fn each_statement_leaves_its_rows_or_is_refused(rt: HostRuntime) -> Result<(), AllocError> {
+    let alloc = rt.alloc();
+    let mut cases = List::new(alloc);
+    plain_cases(alloc, &mut cases)?;
+    matched_cases(alloc, &mut cases)?;
+    unmatched_cases(alloc, &mut cases)?;
+    for case in cases.as_slice() {
+        assert!(rt; ends(alloc, case), "{}", case.label);
+    }
     Ok(())
 }

@@ -146,6 +146,11 @@ fn what_is_not_there_is_no_fault(rt: HostRuntime) -> Result<(), Fail> {
     assert!(rt; reads(alloc, &mut store, name.as_str(), None));
     assert!(rt; lists(alloc, &mut store, name.as_str(), &[]));
     let mut inputs = FileInputs::new(rt.clone()?);
-    assert!(rt; matches!(inputs.read(alloc, name.as_str(), 4), Ok(InputAnswer::Missing)));
+    assert!(rt;
+        matches!(
+            inputs.read(alloc, name.as_str(), 4),
+            Ok(InputAnswer::Missing)
+        )
+    );
     Ok(())
 }

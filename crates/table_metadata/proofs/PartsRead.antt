@@ -1,5 +1,5 @@
 -- The readings that metadata is made of, each with what it gives.
-use Rattle.std.proofs.Common.{◌≡◌, List, Result, Ok, Err, refl, subst}
+use Rattle.std.proofs.Common.{◌≡◌, List, Result, Ok, refl, subst}
 use Rattle.serde_json.specs.Data.{Data}
 use Rattle.table_metadata.specs.declared.references.RefItem.{RefItem}
 use Rattle.table_metadata.specs.FieldIds.{field_ids_fit}

@@ -146,7 +146,7 @@ fn is_compressed_behind(bytes: &[u8]) -> bool
 fn compressed_from(number: u64, rest: &[u8]) -> bool
     ensures { result ≡ compressed_from (number, rest.now) }
 {
-    let is_compressed =
-        rest == b".gz.metadata.json".as_slice() || rest == b".metadata.json.gz".as_slice();
+    let is_compressed = rest == b".gz.metadata.json".as_slice()
+        || rest == b".metadata.json.gz".as_slice();
     is_compressed && 0 < number && number < 1 << 32
 }

@@ -1,0 +1,2 @@
+pub mod SchemaData
+pub mod SpecData
