@@ -32,44 +32,6 @@ fn with_more(alloc: Global, more: &str) -> Result<String, Fail> {
     Ok(text)
 }
 
-#[test]
-fn files_in_another_form_are_refused(rt: HostRuntime) -> Result<(), Fail> {
-    let bad = Some(DefinitionFault::Schema);
-    for (more, wanted) in [
-        ("", None),
-        (r#","properties":{"owner":"o"}"#, None),
-        (r#","partition-spec":[]"#, None),
-        ("}", bad),
-        (r#","location":"s3://warehouse/t""#, bad),
-        (r#","partition-spec":{}"#, bad),
-        (r#","properties":{"owner":1}"#, bad),
-        (r#","properties":null"#, bad),
-        (
-            r#","partition-spec":[{"source-id":1,"field-id":1000,"name":"x","transform":"identity","width":1.5}]"#,
-            bad,
-        ),
-        (
-            r#","partition-spec":[{"source-id":2,"field-id":1000,"name":"x","transform":"identity"}]"#,
-            bad,
-        ),
-    ] {
-        let text = with_more(rt.alloc(), more)?;
-        assert_eq!(rt;
-            fault_of(rt.alloc(), text.as_bytes()),
-            wanted,
-            "with {more}"
-        );
-    }
-    for text in ["", "{", "[]", "{}", r#"{"schema":{}}"#] {
-        assert_eq!(rt; fault_of(rt.alloc(), text.as_bytes()), bad, "{text}");
-    }
-    assert_eq!(rt;
-        fault_of(rt.alloc(), &[b'{', 255, b'}']),
-        Some(DefinitionFault::Text)
-    );
-    Ok(())
-}
-
 /// A file that nests so many levels deep, and two more.
 fn nested(alloc: Global, levels: usize) -> Result<String, AllocError> {
     let open = "[".repeat(alloc, levels)?;
@@ -79,16 +41,49 @@ fn nested(alloc: Global, levels: usize) -> Result<String, AllocError> {
     )
 }
 
-#[test]
-fn a_file_nests_125_levels_at_most(rt: HostRuntime) -> Result<(), Fail> {
-    for (levels, wanted) in [(123, None), (124, Some(DefinitionFault::Schema))] {
-        let text = nested(rt.alloc(), levels)?;
-        assert_eq!(rt;
-            fault_of(rt.alloc(), text.as_bytes()),
-            wanted,
-            "{levels} levels"
-        );
+const GOOD_ENDS: &[&str] = &[
+    "",
+    r#","properties":{"owner":"o"}"#,
+    r#","partition-spec":[{"source-id":1,"field-id":1000,"name":"x","transform":"identity","width":1}]"#,
+];
+
+const BAD_ENDS: &[&str] = &[
+    "}",
+    r#","location":"t""#,
+    r#","properties":null"#,
+    r#","properties":{"owner":1}"#,
+    r#","partition-spec":{}"#,
+    r#","partition-spec":[{"source-id":2,"field-id":1000,"name":"x","transform":"identity"}]"#,
+    r#","partition-spec":[{"source-id":1,"field-id":1000,"name":"x","transform":"identity","width":1.5}]"#,
+];
+
+/// Whether the small file with each of these ends has the fault.
+fn all_have(alloc: Global, ends: &[&str], fault: Option<DefinitionFault>) -> Result<bool, Fail> {
+    for end in ends {
+        let text = with_more(alloc, end)?;
+        if fault_of(alloc, text.as_bytes()) != fault {
+            return Ok(false);
+        }
     }
+    Ok(true)
+}
+
+#[test]
+fn files_in_another_form_are_refused(rt: HostRuntime) -> Result<(), Fail> {
+    let bad = Some(DefinitionFault::Schema);
+    for text in ["", "{", "[]", "{}", r#"{"schema":{}}"#] {
+        assert_eq!(rt; fault_of(rt.alloc(), text.as_bytes()), bad, "{text}");
+    }
+    assert!(rt; all_have(rt.alloc(), GOOD_ENDS, None)?);
+    assert!(rt; all_have(rt.alloc(), BAD_ENDS, bad)?);
+    let deepest = nested(rt.alloc(), 123)?;
+    assert_eq!(rt; fault_of(rt.alloc(), deepest.as_bytes()), None);
+    let deeper = nested(rt.alloc(), 124)?;
+    assert_eq!(rt; fault_of(rt.alloc(), deeper.as_bytes()), bad);
+    assert_eq!(rt;
+        fault_of(rt.alloc(), &[b'{', 255, b'}']),
+        Some(DefinitionFault::Text)
+    );
     Ok(())
 }
 
