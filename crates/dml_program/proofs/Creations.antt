@@ -31,6 +31,9 @@ stopped failed table files wanted (status.InputFailed name) (inl rose) = inl ros
 stopped failed table files wanted (status.InputFailed name) (inr e) = inr (ap (create_answer table files) e)
 stopped failed table files wanted (status.StateUnknown session number) e = tt
 stopped failed table files wanted status.Memory e = tt
+stopped failed table files wanted status.Done e = absurd e
+stopped failed table files wanted status.Usage e = absurd e
+stopped failed table files wanted status.OutputFailed e = absurd e
 
 -- a table without a version has no first version
 pub no_first : (table : List ℕ) (files : Files) → version_of table files ≡ None → map.get files (version_name table 1) ≡ None

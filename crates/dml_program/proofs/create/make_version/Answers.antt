@@ -1,6 +1,7 @@
 use Rattle.std.proofs.Common.{sym, ◌∙◌, Some, None, ◌≡◌, ap}
 use Rattle.std.specs.FinMap as map
 use Rattle.table_names.specs.Versions.{version_name}
+use Rattle.store_core.specs.Answers.{is_lost}
 use Rattle.dml_program.proofs.Creations.{no_first, not_lost}
 use Rattle.dml_program.proofs.create.make_version.Goals as goal
 
@@ -11,4 +12,4 @@ swap-requires g c files is there =
 
 pub returns-in-Ok-Lost-clause-refused : goal.returns-in-Ok-Lost-clause-refused
 returns-in-Ok-Lost-clause-refused g c files is =
-    not_lost c.args.table.now c.as_str.result.now files (c.requires files is) (c.as_str.ensures.value ∙ c.in_ok-name.ensures) (c.in-Ok-Lost.ensures.answer files is)
+    not_lost c.args.table.now c.as_str.result.now files (c.requires files is) (c.as_str.ensures.value ∙ c.in_ok-name.ensures) (ap is_lost (sym c.in-Ok-Lost.field-0-is) ∙ c.in-Ok-Lost.ensures.answer files is)
