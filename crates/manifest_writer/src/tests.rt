@@ -129,10 +129,15 @@ fn schema(alloc: Global) -> Result<TableSchema, AllocError> {
     Ok(TableSchema { id: 0, columns })
 }
 
-fn part(alloc: Global, source: i32, transform: Transform) -> Result<PartField, AllocError> {
+fn part(
+    alloc: Global,
+    source: i32,
+    field: i32,
+    transform: Transform,
+) -> Result<PartField, AllocError> {
     Ok(PartField {
         source,
-        field: 1000,
+        field,
         name: Text::copy_of(alloc, "1 c")?,
         transform,
     })
@@ -141,15 +146,10 @@ fn part(alloc: Global, source: i32, transform: Transform) -> Result<PartField, A
 /// A day, an amount, a bucket and a void field, whose names are none of Avro.
 fn spec(alloc: Global) -> Result<Spec, AllocError> {
     let mut fields = List::new(alloc);
-    fields.push(part(alloc, 1, Transform::Day)?)?;
-    let transforms = [Transform::Identity, Transform::Bucket(4), Transform::Void];
-    let mut id = 1001;
-    for transform in transforms {
-        let mut field = part(alloc, 2, transform)?;
-        field.field = id;
-        fields.push(field)?;
-        id += 1;
-    }
+    fields.push(part(alloc, 1, 1000, Transform::Day)?)?;
+    fields.push(part(alloc, 2, 1001, Transform::Identity)?)?;
+    fields.push(part(alloc, 2, 1002, Transform::Bucket(4))?)?;
+    fields.push(part(alloc, 2, 1003, Transform::Void)?)?;
     Ok(Spec { id: 3, fields })
 }
 
