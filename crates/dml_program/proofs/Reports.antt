@@ -71,3 +71,8 @@ completes failed a status.Memory result before now unsettled r c cause none kept
 completes failed a status.Memory result before now unsettled r c cause none kept (inr e) = inl e
 completes failed a status.Done result before now unsettled r c cause none kept is = absurd r
 completes failed a status.OutputFailed result before now unsettled r c cause none kept is = absurd r
+
+-- the files that are left, whatever the status that is written
+pub left_by : (a : Answer) (s result : Status) (files : Files) (new : Option Files) → IsRefused s → Leaves a s files new → (result ≡ s) ⊎ (result ≡ status.Memory) → Leaves a result files new
+left_by a s result files new r left (inl e) = subst (λ t. Leaves a t files new) (sym e) left
+left_by a s result files new r left (inr e) = subst (λ t. Leaves a t files new) (sym e) (memory_leaves a s files new r left)
