@@ -1,16 +1,15 @@
 -- The steps of `create`, one after another.
-use Rattle.std.proofs.Common.{◌≡◌, ◌⊎◌, inl, inr, ℕ, ℤ, List, Option, Some, None, Result, Ok, Err, Bool, true, false, true≢false, is_some, refl, sym, ap, subst, ◌∙◌, arith}
+use Rattle.std.proofs.Common.{◌≡◌, inl, inr, ℕ, ℤ, List, Option, None, Result, Ok, true≢false, is_some, sym, ap, subst, ◌∙◌, arith}
 use Rattle.std.specs.FinMap as map
-use Rattle.std.specs.Option.{ForSome}
 use Rattle.plain_types.specs.Steps.{◌>>=◌}
-use Rattle.store_core.specs.Files.{Files, KeepsFiles}
+use Rattle.store_core.specs.Files.{Files}
 use Rattle.store_core.specs.Answers.{is_lost}
 use Rattle.store_core.specs.declared.store.SwapAnswer.TheVariants.{Lost}
 use Rattle.table_definition.specs.Definition.{Asked}
 use Rattle.table_definition.specs.FirstText.{first_text}
 use Rattle.table_names.specs.Versions.{version_name, version_of}
 use Rattle.table_names.proofs.VersionNames.{all_are_missing}
-use Rattle.dml_program.specs.Answers.{Answer, refused, Carries, Leaves, Prints, create_answer}
+use Rattle.dml_program.specs.Answers.{Carries, Leaves, create_answer}
 use Rattle.dml_program.specs.Creating.{Stops, asked_by, file_given, first_version_of, may_be_made}
 use Rattle.dml_program.specs.declared.status.Status.{Status}
 use Rattle.dml_program.specs.declared.status.Status.TheVariants as status

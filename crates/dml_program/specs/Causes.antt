@@ -1,5 +1,5 @@
 -- What a status that says that something failed needs of the counts of faults.
-use Rattle.std.specs.Prelude.{◌≡◌, ◌⊎◌, ◌≤◌, ◌<◌, ℕ, List, Option, None}
+use Rattle.std.specs.Prelude.{◌≡◌, ◌⊎◌, ◌≤◌, ◌<◌, ℕ, Option, None}
 use Rattle.std.specs.FinMap as map
 use Rattle.std.specs.Option.{ForSome}
 use Rattle.plain_types.specs.Causes.{Rose, RoseTwice}

@@ -14,7 +14,6 @@ use Rattle.table_definition.specs.declared.definition.DefinitionFault.TheVariant
 use Rattle.table_definition.specs.FirstText.{first_text}
 use Rattle.table_names.specs.Versions.{version_of, compressed_of}
 use Rattle.dml_program.specs.declared.status.TableKind.TheVariants.{Exists, Later}
-use Rattle.dml_program.specs.declared.status.ScriptKind.{ScriptKind}
 use Rattle.dml_program.specs.declared.status.ScriptKind.TheVariants as script
 use Rattle.dml_program.specs.declared.status.Status.{Status}
 use Rattle.dml_program.specs.declared.status.Status.TheVariants as status

@@ -1,6 +1,5 @@
-use Rattle.std.proofs.Common.{sym, ◌∙◌, Some, None, ◌≡◌, ap}
+use Rattle.std.proofs.Common.{sym, ◌∙◌, None, ◌≡◌, ap}
 use Rattle.std.specs.FinMap as map
-use Rattle.table_names.specs.Versions.{version_name}
 use Rattle.store_core.specs.Answers.{is_lost}
 use Rattle.dml_program.proofs.Creations.{no_first, not_lost}
 use Rattle.dml_program.proofs.create.make_version.Goals as goal

@@ -1,6 +1,6 @@
 use Rattle.std.proofs.Common.{◌≡◌, Some, ap, ◌∙◌}
 use Rattle.command_line.specs.declared.words.Command.{Command}
-use Rattle.command_line.specs.Words.{Wanted, command_of, create, rows, texts, wanted}
+use Rattle.command_line.specs.Words.{command_of, create, rows, texts, wanted}
 use Rattle.dml_program.specs.Answers.{so_far}
 use Rattle.dml_program.proofs.Reports.{leaves_of, rows_carried}
 use Rattle.dml_program.proofs.run.carry_out.Goals as goal

@@ -1,4 +1,4 @@
-use Rattle.std.proofs.Common.{◌≡◌, ℕ, List, sym, ap, subst, ◌∙◌}
+use Rattle.std.proofs.Common.{ℕ, List, sym, subst}
 use Rattle.command_line.specs.Words.{texts}
 use Rattle.dml_program.specs.Answers.{Prints, Writes, answer_of}
 use Rattle.dml_program.proofs.Reports.{completes, left_by, printed}
@@ -9,8 +9,8 @@ returns-in-Ok-clause-report g c files told inputs given now time =
     let answer = answer_of (texts c.args.words.now) files inputs now in
     let prints : Prints answer c.as_slice.result.now = subst (Prints answer) (sym c.as_slice.ensures.value) (c.in-Ok.ensures.found files told inputs given now time) in
     subst (λ (lines : List ℕ). Writes lines (g.K.Sink.written c.args.out.now) (g.K.Sink.written c.write_lines.new.out) (g.K.Sink.faults c.args.out.now) (g.K.Sink.faults c.write_lines.new.out))
-      (sym (printed answer c.as_slice.result.now c.write_lines.result prints c.write_lines.ensures.status))
-      c.write_lines.ensures.report
+    (sym (printed answer c.as_slice.result.now c.write_lines.result prints c.write_lines.ensures.status))
+    c.write_lines.ensures.report
 
 pub returns-in-Err-clause-complete : goal.returns-in-Err-clause-complete
 returns-in-Err-clause-complete g c store_kept inputs_kept out_kept files told inputs given now time =
