@@ -44,6 +44,11 @@ fn nested(alloc: Global, levels: usize) -> Result<String, AllocError> {
 const GOOD_ENDS: &[&str] = &[
     "",
     r#","properties":{"owner":"o"}"#,
+    r#","properties":{"write.delete.mode":"copy-on-write","write.merge.mode":"merge-on-read"}"#,
+    r#","properties":{"write.update.isolation-level":"snapshot"}"#,
+    r#","properties":{"commit.retry.num-retries":"0"}"#,
+    r#","properties":{"commit.retry.num-retries":"1000"}"#,
+    r#","properties":{"commit.manifest.min-count-to-merge":"0","commit.manifest-merge.enabled":"false"}"#,
     r#","partition-spec":[{"source-id":1,"field-id":1000,"name":"x","transform":"identity","width":1}]"#,
 ];
 
@@ -52,6 +57,17 @@ const BAD_ENDS: &[&str] = &[
     r#","location":"t""#,
     r#","properties":null"#,
     r#","properties":{"owner":1}"#,
+    r#","properties":{"write.delete.mode":""}"#,
+    r#","properties":{"write.update.mode":"merge"}"#,
+    r#","properties":{"write.merge.mode":"MERGE-ON-READ"}"#,
+    r#","properties":{"write.delete.isolation-level":"none"}"#,
+    r#","properties":{"write.update.isolation-level":"none"}"#,
+    r#","properties":{"write.merge.isolation-level":"none"}"#,
+    r#","properties":{"commit.retry.num-retries":"1001"}"#,
+    r#","properties":{"commit.retry.num-retries":"-1"}"#,
+    r#","properties":{"commit.retry.num-retries":"007"}"#,
+    r#","properties":{"commit.manifest.min-count-to-merge":"1.5"}"#,
+    r#","properties":{"commit.manifest-merge.enabled":"yes"}"#,
     r#","partition-spec":{}"#,
     r#","partition-spec":[{"source-id":2,"field-id":1000,"name":"x","transform":"identity"}]"#,
     r#","partition-spec":[{"source-id":1,"field-id":1000,"name":"x","transform":"identity","width":1.5}]"#,
@@ -84,6 +100,99 @@ fn files_in_another_form_are_refused(rt: HostRuntime) -> Result<(), Fail> {
         fault_of(rt.alloc(), &[b'{', 255, b'}']),
         Some(DefinitionFault::Text)
     );
+    Ok(())
+}
+
+/// Each stands behind the column `x` with the id 1.
+const GOOD_COLUMNS: &[&str] = &[
+    r#"{"id":2,"name":"X","required":true,"type":"long"}"#,
+    r#"{"id":-5,"name":"","required":false,"type":"decimal(38,0)"}"#,
+    r#"{"id":2147483543,"name":"y","required":false,"type":"binary"}"#,
+];
+
+const BAD_COLUMNS: &[&str] = &[
+    "{}",
+    "[]",
+    r#"{"name":"y","required":true,"type":"long"}"#,
+    r#"{"id":"2","name":"y","required":true,"type":"long"}"#,
+    r#"{"id":2147483648,"name":"y","required":true,"type":"long"}"#,
+    r#"{"id":2,"required":true,"type":"long"}"#,
+    r#"{"id":2,"name":2,"required":true,"type":"long"}"#,
+    r#"{"id":2,"name":"y","type":"long"}"#,
+    r#"{"id":2,"name":"y","required":"true","type":"long"}"#,
+    r#"{"id":2,"name":"y","required":true}"#,
+    r#"{"id":2,"name":"y","required":true,"type":{"type":"struct"}}"#,
+    r#"{"id":2,"name":"y","required":true,"type":"double"}"#,
+    r#"{"id":1,"name":"y","required":true,"type":"long"}"#,
+    r#"{"id":2,"name":"x","required":true,"type":"long"}"#,
+    r#"{"id":2147483544,"name":"y","required":true,"type":"long"}"#,
+    r#"{"id":2147483545,"name":"y","required":true,"type":"long"}"#,
+    r#"{"id":2147483546,"name":"y","required":true,"type":"long"}"#,
+];
+
+fn with_column(alloc: Global, column: &str) -> Result<String, AllocError> {
+    format!(in alloc;
+        r#"{{"schema":{{"schema-id":0,"fields":[{{"id":1,"name":"x","required":true,"type":"long"}},{column}]}}}}"#
+    )
+}
+
+/// So many columns, each of which has its id as its name.
+fn columns(alloc: Global, count: i32) -> Result<String, AllocError> {
+    let mut text = String::from_str(alloc, r#"{"schema":{"schema-id":0,"fields":["#)?;
+    for id in 0..count {
+        if id > 0 {
+            text.push(',')?;
+        }
+        let column = format!(in alloc;
+            r#"{{"id":{id},"name":"{id}","required":true,"type":"long"}}"#
+        )?;
+        text.push_str(column.as_str())?;
+    }
+    text.push_str("]}}")?;
+    Ok(text)
+}
+
+/// A column whose name has so many bytes.
+fn named(alloc: Global, bytes: usize) -> Result<String, AllocError> {
+    let name = "n".repeat(alloc, bytes)?;
+    let column = format!(in alloc; r#"{{"id":2,"name":"{name}","required":true,"type":"long"}}"#)?;
+    with_column(alloc, column.as_str())
+}
+
+fn columns_have(
+    alloc: Global,
+    columns: &[&str],
+    fault: Option<DefinitionFault>,
+) -> Result<bool, AllocError> {
+    for column in columns {
+        let text = with_column(alloc, column)?;
+        if fault_of(alloc, text.as_bytes()) != fault {
+            return Ok(false);
+        }
+    }
+    Ok(true)
+}
+
+#[test]
+fn each_column_has_its_keys_and_its_limits(rt: HostRuntime) -> Result<(), Fail> {
+    let alloc = rt.alloc();
+    let bad = Some(DefinitionFault::Schema);
+    assert!(rt; columns_have(alloc, GOOD_COLUMNS, None)?);
+    assert!(rt; columns_have(alloc, BAD_COLUMNS, bad)?);
+    for (count, fault) in [(0, bad), (1, None), (256, None), (257, bad)] {
+        assert_eq!(rt;
+            fault_of(alloc, columns(alloc, count)?.as_bytes()),
+            fault,
+            "{count}"
+        );
+    }
+    for (bytes, fault) in [(4096, None), (4097, bad)] {
+        assert_eq!(rt;
+            fault_of(alloc, named(alloc, bytes)?.as_bytes()),
+            fault,
+            "{bytes}"
+        );
+    }
     Ok(())
 }
 
