@@ -1,3 +1,7 @@
+ghost use Rattle.std.specs.Prelude.{◌≡◌, ◌≢◌, [], ◌∷◌, Some, IfOk, codes};
+ghost use Rattle.std.specs.FinMap as map;
+ghost use Rattle.store_core.specs.Memory.{files_of};
+
 use crate::{SwapAnswer, SwapFault, swap};
 use std::alloc::{AllocError, Global};
 use std::test::Fail;
@@ -6,20 +10,30 @@ use store_core::{Blob, CallKind, FailAt, File, Leave, List, MemoryStore, Name};
 #[derive(Drop)]
 struct Case {
     label: &'static str,
-    held: Option<&'static [u8]>,
+    held: bool,
     leave: Option<Leave>,
     read_fails: bool,
     want: Result<SwapAnswer, SwapFault>,
 }
 
-fn store_of(alloc: Global, case: &Case) -> Result<MemoryStore, AllocError> {
+fn no_file(alloc: Global) -> List<File>
+    ensures { map.get (files_of result) (codes "v") ≢ Some (codes "new") }
+{
+    List::new(alloc)
+}
+
+fn one_file(alloc: Global) -> Result<List<File>, AllocError>
+    ensures { IfOk result (λ files. map.get (files_of files) (codes "v") ≢ Some (codes "new")) }
+{
     let mut files = List::new(alloc);
-    if let Some(bytes) = case.held {
-        files.push(File {
-            name: Name::copy_of(alloc, "v")?,
-            bytes: Blob::copy_of(alloc, bytes)?,
-        })?;
-    }
+    files.push(File {
+        name: Name::copy_of(alloc, "v")?,
+        bytes: Blob::copy_of(alloc, b"old")?,
+    })?;
+    Ok(files)
+}
+
+fn plan_of(alloc: Global, case: &Case) -> Result<List<FailAt>, AllocError> {
     let mut plan = List::new(alloc);
     if let Some(leave) = case.leave {
         plan.push(FailAt {
@@ -35,12 +49,33 @@ fn store_of(alloc: Global, case: &Case) -> Result<MemoryStore, AllocError> {
             leave: Leave::Nothing,
         })?;
     }
-    Ok(MemoryStore::failing(files, plan))
+    Ok(plan)
+}
+
+fn swapped(
+    alloc: Global,
+    files: List<File>,
+    plan: List<FailAt>,
+) -> Result<SwapAnswer, SwapFault>
+    requires { map.get (files_of files) (codes "v") ≢ Some (codes "new") }
+{
+    let mut store = MemoryStore::failing(files, plan);
+    swap(alloc, &mut store, "v", b"new")
+}
+
+fn ends(alloc: Global, case: &Case) -> Result<bool, AllocError> {
+    let plan = plan_of(alloc, case)?;
+    let answer = if case.held {
+        swapped(alloc, one_file(alloc)?, plan)
+    } else {
+        swapped(alloc, no_file(alloc), plan)
+    };
+    Ok(answer == case.want)
 }
 
 fn swap_case(
     label: &'static str,
-    held: Option<&'static [u8]>,
+    held: bool,
     leave: Option<Leave>,
     read_fails: bool,
     want: Result<SwapAnswer, SwapFault>,
@@ -59,37 +94,19 @@ fn a_failed_swap_is_settled_by_reading_its_name(rt: HostRuntime) -> Result<(), F
     let alloc = rt.alloc();
     let won = Ok(SwapAnswer::Won);
     let lost = Ok(SwapAnswer::Lost);
+    let missing = Err(SwapFault::Store);
+    let unknown = Err(SwapFault::Unknown);
     let whole = Some(Leave::Whole);
     let nothing = Some(Leave::Nothing);
     for case in [
-        swap_case("a new name", None, None, false, won),
-        swap_case("a name that is there", Some(b"x"), None, false, lost),
-        swap_case("it failed and left the file", None, whole, false, won),
-        swap_case(
-            "it failed on a name that is there",
-            Some(b"x"),
-            whole,
-            false,
-            lost,
-        ),
-        swap_case(
-            "it failed and left nothing",
-            None,
-            nothing,
-            false,
-            Err(SwapFault::Store),
-        ),
-        swap_case(
-            "both calls failed",
-            None,
-            whole,
-            true,
-            Err(SwapFault::Unknown),
-        ),
+        swap_case("a new name", false, None, false, won),
+        swap_case("a name that is there", true, None, false, lost),
+        swap_case("it failed and left the file", false, whole, false, won),
+        swap_case("it failed on a name that is there", true, whole, false, lost),
+        swap_case("it failed and left nothing", false, nothing, false, missing),
+        swap_case("both calls failed", false, whole, true, unknown),
     ] {
-        let mut store = store_of(alloc, &case)?;
-        let answer = swap(alloc, &mut store, "v", b"new");
-        assert!(rt; answer == case.want, "{}", case.label);
+        assert!(rt; ends(alloc, &case)?, "{}", case.label);
     }
     Ok(())
 }

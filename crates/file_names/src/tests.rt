@@ -1,9 +1,13 @@
+ghost use Rattle.std.specs.Prelude.{◌≡◌, IfOk};
+
 use crate::Names;
 use plain_types::Text;
-use std::alloc::Global;
+use std::alloc::{AllocError, Global};
 use std::test::Fail;
 
-fn names(alloc: Global) -> Result<Names, Fail> {
+fn names(alloc: Global) -> Result<Names, AllocError>
+    ensures { IfOk result (λ names. names.next ≡ 9) }
+{
     Ok(Names {
         run: 2,
         session: Text::copy_of(alloc, "load_1")?,
