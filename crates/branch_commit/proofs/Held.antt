@@ -1,5 +1,6 @@
 -- What a store of one file has under its name.
-use Rattle.std.proofs.Common.{◌≡◌, ℕ, List, [], ◌∷◌, Some, codes, sym, ap, ◌∙◌}
+use Rattle.std.proofs.Common.{◌≡◌, ◌≢◌, ℕ, List, [], ◌∷◌, Option, Some, codes, get_or, ap, ◌∙◌, arith}
+use Rattle.plain_types.specs.Steps.{by_option}
 use Rattle.std.specs.FinMap as map
 use Rattle.std.specs.Ordering.{nat_cmp}
 use Rattle.std.specs.Cmp.Lexicographic.{slice_cmp}
@@ -13,3 +14,8 @@ held_is files file is name bytes =
     ∙ get-files_of (file ∷ []) (codes "v")
     ∙ ap (λ (n : List ℕ). map.find (slice_cmp nat_cmp) (codes "v") ((n, file.bytes) ∷ [])) name
     ∙ ap (λ (b : List ℕ). map.find (slice_cmp nat_cmp) (codes "v") ((codes "v", b) ∷ [])) bytes
+
+pub other_bytes : Some (codes "old") ≢ Some (codes "new")
+other_bytes e =
+    let first : ◌≡◌ {A = ℕ} 111 110 = ap (λ (o : Option (List ℕ)). by_option o (λ bytes. get_or bytes 0 0) 0) e in
+    omega arith

@@ -52,11 +52,7 @@ fn plan_of(alloc: Global, case: &Case) -> Result<List<FailAt>, AllocError> {
     Ok(plan)
 }
 
-fn swapped(
-    alloc: Global,
-    files: List<File>,
-    plan: List<FailAt>,
-) -> Result<SwapAnswer, SwapFault>
+fn swapped(alloc: Global, files: List<File>, plan: List<FailAt>) -> Result<SwapAnswer, SwapFault>
     requires { map.get (files_of files) (codes "v") ≢ Some (codes "new") }
 {
     let mut store = MemoryStore::failing(files, plan);
@@ -102,7 +98,13 @@ fn a_failed_swap_is_settled_by_reading_its_name(rt: HostRuntime) -> Result<(), F
         swap_case("a new name", false, None, false, won),
         swap_case("a name that is there", true, None, false, lost),
         swap_case("it failed and left the file", false, whole, false, won),
-        swap_case("it failed on a name that is there", true, whole, false, lost),
+        swap_case(
+            "it failed on a name that is there",
+            true,
+            whole,
+            false,
+            lost,
+        ),
         swap_case("it failed and left nothing", false, nothing, false, missing),
         swap_case("both calls failed", false, whole, true, unknown),
     ] {
