@@ -21,145 +21,125 @@ const VERSION: &str = "h/metadata/v1.metadata.json";
 const TEXT: &str =
     r#"{"current-schema-id":0,"default-sort-order-id":0,"default-spec-id":0,"format-version":2,"last-column-id":2,"last-partition-id":999,"last-sequence-number":0,"last-updated-ms":1700000000000,"location":"h","partition-specs":[{"fields":[],"spec-id":0}],"properties":{},"schemas":[{"fields":[{"id":1,"name":"id","required":true,"type":"long"},{"doc":"who","id":2,"name":"name","required":false,"type":"string"}],"schema-id":0,"type":"struct"}],"sort-orders":[{"fields":[],"order-id":0}],"table-uuid":"29ac0894-7884-5831-8a36-17e914394540"}"#;
 
-#[derive(Drop)]
-struct Creation {
-    schema: &'static [u8],
-    held: &'static str,
-    fails: Option<(CallKind, Leave)>,
-    read_fails: bool,
+const BAD: &[&str] = &[
+    r#"{"#,
+    r#"[]"#,
+    r#"{}"#,
+    r#"{"schema":{"schema-id":0,"fields":[]}}"#,
+    r#"{"schema":{"schema-id":0,"fields":[{"id":1,"name":"a","required":true,"type":"long"}]},"other":1}"#,
+    r#"{"schema":{"schema-id":0,"fields":[{"id":1,"name":"a","required":true,"type":"long"}]},"properties":{"a":1}}"#,
+    r#"{"schema":{"schema-id":0,"fields":[{"id":1,"name":"a","required":true,"type":"long"}]},"properties":{"write.delete.mode":"no"}}"#,
+    r#"{"schema":{"schema-id":0,"fields":[{"id":1,"name":"a","required":true,"type":"long"}]},"partition-spec":{}}"#,
+    r#"{"schema":{"schema-id":0,"fields":[{"id":1,"name":"a","required":true,"type":"long","x":1.5}]}}"#,
+];
+
+const FOR_LATER: &[&str] = &[
+    r#"{"schema":{"schema-id":0,"fields":[{"id":1,"name":"a","required":true,"type":"int"}]}}"#,
+    r#"{"schema":{"schema-id":0,"fields":[{"id":1,"name":"a","required":true,"type":"long"}]},"partition-spec":[{"source-id":1,"field-id":1000,"name":"a","transform":"identity"}]}"#,
+    r#"{"schema":{"schema-id":0,"fields":[{"id":1,"name":"a","required":true,"type":"long"}]},"properties":{"write.delete.mode":"merge-on-read"}}"#,
+];
+
+/// Whether the call ends so, with this schema file.
+fn ends(
+    alloc: Global,
+    schema: &[u8],
+    store: MemoryStore,
     number: u8,
-    report: &'static str,
+    report: &str,
+) -> Result<bool, AllocError> {
+    let mut store = store;
+    let mut inputs = MemoryInputs::with_files(one_file(alloc, "s.json", schema)?, 0);
+    let mut out = MemorySink::new(alloc, 128, 0)?;
+    let mut clock = FixedClock::at(1_700_000_000_000);
+    let words = CREATE.as_slice();
+    let status = run_program(alloc, words, &mut store, &mut inputs, &mut out, &mut clock);
+    Ok(status.number() == number && out.bytes() == report.as_bytes())
 }
 
-/// A schema file and what is answered, in a folder without files and where no call fails.
-fn by_schema(schema: &'static [u8], number: u8, report: &'static str) -> Creation {
-    Creation {
-        schema,
-        held: "",
-        fails: None,
-        read_fails: false,
-        number,
-        report,
+/// Whether each call ends so, in a folder without files.
+fn all_end(alloc: Global, schemas: &[&str], number: u8, report: &str) -> Result<bool, AllocError> {
+    for schema in schemas {
+        let store = MemoryStore::new(alloc);
+        if !ends(alloc, schema.as_bytes(), store, number, report)? {
+            return Ok(false);
+        }
     }
+    Ok(true)
 }
 
-fn bad_schema(schema: &'static [u8]) -> Creation {
-    by_schema(schema, 3, "fault script 1 schema\n")
+#[test]
+fn a_schema_file_out_of_form_is_named(rt: HostRuntime) -> Result<(), Fail> {
+    let alloc = rt.alloc();
+    assert!(rt; all_end(alloc, BAD, 3, "fault script 1 schema\n")?);
+    assert!(rt; all_end(alloc, FOR_LATER, 3, "fault script 1 later\n")?);
+    let store = MemoryStore::new(alloc);
+    assert!(rt; ends(alloc, b"\xff", store, 3, "fault script 1 text\n")?);
+    Ok(())
 }
 
-fn later(schema: &'static [u8]) -> Creation {
-    by_schema(schema, 3, "fault script 1 later\n")
+fn beside(alloc: Global, name: &str, report: &str) -> Result<bool, AllocError> {
+    let store = MemoryStore::with_files(one_file(alloc, name, b"{}")?);
+    ends(alloc, SCHEMA, store, 4, report)
 }
 
+#[test]
+fn a_table_is_made_where_there_is_none(rt: HostRuntime) -> Result<(), Fail> {
+    let alloc = rt.alloc();
+    let compressed = "h/metadata/v3.gz.metadata.json";
+    assert!(rt; beside(alloc, VERSION, "fault table exists h\n")?);
+    assert!(rt;
+        beside(
+            alloc,
+            compressed,
+            "fault table later h/metadata/v3.gz.metadata.json\n"
+        )?
+    );
+    Ok(())
+}
+
+/// A store whose first call of a kind fails, and perhaps its first read.
 fn failing(
+    alloc: Global,
     kind: CallKind,
     leave: Leave,
     read_fails: bool,
-    number: u8,
-    report: &'static str,
-) -> Creation {
-    Creation {
-        fails: Some((kind, leave)),
-        read_fails,
-        ..by_schema(SCHEMA, number, report)
-    }
-}
-
-fn beside(held: &'static str, report: &'static str) -> Creation {
-    Creation {
-        held,
-        ..by_schema(SCHEMA, 4, report)
-    }
-}
-
-fn store_of(alloc: Global, case: &Creation) -> Result<MemoryStore, AllocError> {
-    let files = if case.held.is_empty() {
-        List::new(alloc)
-    } else {
-        one_file(alloc, case.held, b"{}")?
-    };
+) -> Result<MemoryStore, AllocError> {
     let mut plan = List::new(alloc);
-    if let Some((kind, leave)) = case.fails {
-        plan.push(FailAt {
-            kind,
-            nth: 1,
-            leave,
-        })?;
-    }
-    if case.read_fails {
+    plan.push(FailAt {
+        kind,
+        nth: 1,
+        leave,
+    })?;
+    if read_fails {
         plan.push(FailAt {
             kind: CallKind::Read,
             nth: 1,
             leave: Leave::Nothing,
         })?;
     }
-    Ok(MemoryStore::failing(files, plan))
+    Ok(MemoryStore::failing(List::new(alloc), plan))
 }
 
-/// Whether the call ends so.
-fn ends(alloc: Global, case: &Creation) -> Result<bool, AllocError> {
-    let mut store = store_of(alloc, case)?;
-    let mut inputs = MemoryInputs::with_files(one_file(alloc, "s.json", case.schema)?, 0);
-    let mut out = MemorySink::new(alloc, 128, 0)?;
-    let mut clock = FixedClock::at(1_700_000_000_000);
-    let status = run_program(
-        alloc,
-        CREATE.as_slice(),
-        &mut store,
-        &mut inputs,
-        &mut out,
-        &mut clock,
-    );
-    Ok(status.number() == case.number && out.bytes() == case.report.as_bytes())
+fn fails(
+    alloc: Global,
+    kind: CallKind,
+    leave: Leave,
+    read_fails: bool,
+    number: u8,
+    report: &str,
+) -> Result<bool, AllocError> {
+    let store = failing(alloc, kind, leave, read_fails)?;
+    ends(alloc, SCHEMA, store, number, report)
 }
 
 #[test]
-fn a_table_is_made_or_the_answer_names_why_not(rt: HostRuntime) -> Result<(), Fail> {
+fn a_call_that_fails_is_named_or_settled(rt: HostRuntime) -> Result<(), Fail> {
     let alloc = rt.alloc();
-    let nothing = Leave::Nothing;
-    for case in [
-        by_schema(SCHEMA, 0, "created v1\n"),
-        by_schema(b"\xff", 3, "fault script 1 text\n"),
-        bad_schema(b"{"),
-        bad_schema(b"[]"),
-        bad_schema(b"{}"),
-        bad_schema(b"{\"schema\":{\"schema-id\":0,\"fields\":[]}}"),
-        bad_schema(
-            b"{\"schema\":{\"schema-id\":0,\"fields\":[{\"id\":1,\"name\":\"a\",\"required\":true,\"type\":\"long\"}]},\"other\":1}",
-        ),
-        bad_schema(
-            b"{\"schema\":{\"schema-id\":0,\"fields\":[{\"id\":1,\"name\":\"a\",\"required\":true,\"type\":\"long\"}]},\"properties\":{\"a\":1}}",
-        ),
-        bad_schema(
-            b"{\"schema\":{\"schema-id\":0,\"fields\":[{\"id\":1,\"name\":\"a\",\"required\":true,\"type\":\"long\"}]},\"properties\":{\"write.delete.mode\":\"no\"}}",
-        ),
-        bad_schema(
-            b"{\"schema\":{\"schema-id\":0,\"fields\":[{\"id\":1,\"name\":\"a\",\"required\":true,\"type\":\"long\"}]},\"partition-spec\":{}}",
-        ),
-        bad_schema(
-            b"{\"schema\":{\"schema-id\":0,\"fields\":[{\"id\":1,\"name\":\"a\",\"required\":true,\"type\":\"long\",\"x\":1.5}]}}",
-        ),
-        later(
-            b"{\"schema\":{\"schema-id\":0,\"fields\":[{\"id\":1,\"name\":\"a\",\"required\":true,\"type\":\"int\"}]}}",
-        ),
-        later(
-            b"{\"schema\":{\"schema-id\":0,\"fields\":[{\"id\":1,\"name\":\"a\",\"required\":true,\"type\":\"long\"}]},\"partition-spec\":[{\"source-id\":1,\"field-id\":1000,\"name\":\"a\",\"transform\":\"identity\"}]}",
-        ),
-        later(
-            b"{\"schema\":{\"schema-id\":0,\"fields\":[{\"id\":1,\"name\":\"a\",\"required\":true,\"type\":\"long\"}]},\"properties\":{\"write.delete.mode\":\"merge-on-read\"}}",
-        ),
-        beside(VERSION, "fault table exists h\n"),
-        beside(
-            "h/metadata/v3.gz.metadata.json",
-            "fault table later h/metadata/v3.gz.metadata.json\n",
-        ),
-        failing(CallKind::List, nothing, false, 5, "fault store\n"),
-        failing(CallKind::Swap, nothing, false, 5, "fault store\n"),
-        failing(CallKind::Swap, Leave::Whole, false, 0, "created v1\n"),
-        failing(CallKind::Swap, Leave::Whole, true, 8, "fault unknown\n"),
-    ] {
-        assert!(rt; ends(alloc, &case)?, "{}", case.report);
-    }
+    let (whole, nothing) = (Leave::Whole, Leave::Nothing);
+    assert!(rt; fails(alloc, CallKind::List, nothing, false, 5, "fault store\n")?);
+    assert!(rt; fails(alloc, CallKind::Swap, nothing, false, 5, "fault store\n")?);
+    assert!(rt; fails(alloc, CallKind::Swap, whole, false, 0, "created v1\n")?);
+    assert!(rt; fails(alloc, CallKind::Swap, whole, true, 8, "fault unknown\n")?);
     Ok(())
 }
 
@@ -171,57 +151,61 @@ fn holds_version(alloc: Global, store: &mut MemoryStore) -> bool {
     }
 }
 
+/// Whether the call ends so, over a store that stays.
+fn creates(
+    alloc: Global,
+    store: &mut MemoryStore,
+    inputs: &mut MemoryInputs,
+    number: u8,
+    report: &str,
+) -> Result<bool, AllocError> {
+    let mut out = MemorySink::new(alloc, 128, 0)?;
+    let mut clock = FixedClock::at(1_700_000_000_000);
+    let words = CREATE.as_slice();
+    let status = run_program(alloc, words, store, inputs, &mut out, &mut clock);
+    Ok(status.number() == number && out.bytes() == report.as_bytes())
+}
+
+fn has_no_rows(alloc: Global, store: &mut MemoryStore) -> Result<bool, AllocError> {
+    let mut out = MemorySink::new(alloc, 128, 0)?;
+    let status = run(alloc, &["rows", "--table", "h"], store, &mut out);
+    Ok(status.number() == 0 && out.bytes().is_empty())
+}
+
 #[test]
 fn a_table_that_was_made_has_no_rows_and_is_made_once(rt: HostRuntime) -> Result<(), Fail> {
     let alloc = rt.alloc();
     let mut store = MemoryStore::new(alloc);
     let mut inputs = MemoryInputs::with_files(one_file(alloc, "s.json", SCHEMA)?, 3);
-    let mut clock = FixedClock::at(1_700_000_000_000);
-    let words = CREATE.as_slice();
-    for (number, report) in [
-        (0, "created v1\n"),
-        (4, "fault table exists h\n"),
-        (6, "fault input s.json\n"),
-    ] {
-        let mut out = MemorySink::new(alloc, 128, 0)?;
-        let status = run_program(alloc, words, &mut store, &mut inputs, &mut out, &mut clock);
-        assert_eq!(rt; status.number(), number);
-        assert_eq!(rt; out.bytes(), report.as_bytes());
-    }
+    assert!(rt; creates(alloc, &mut store, &mut inputs, 0, "created v1\n")?);
+    assert!(rt; creates(alloc, &mut store, &mut inputs, 4, "fault table exists h\n")?);
+    assert!(rt; creates(alloc, &mut store, &mut inputs, 6, "fault input s.json\n")?);
+    let mut none = MemoryInputs::with_files(List::new(alloc), 0);
+    assert!(rt; creates(alloc, &mut store, &mut none, 6, "fault input s.json\n")?);
     assert!(rt; holds_version(alloc, &mut store));
-    let mut out = MemorySink::new(alloc, 128, 0)?;
-    let status = run(alloc, &["rows", "--table", "h"], &mut store, &mut out);
-    assert_eq!(rt; status.number(), 0);
-    assert_eq!(rt; out.bytes(), b"".as_slice());
-    let status = run(alloc, &CREATE, &mut store, &mut out);
-    assert_eq!(rt; status.number(), 6);
+    assert!(rt; has_no_rows(alloc, &mut store)?);
     Ok(())
+}
+
+/// With so many blanks before it the schema file has 1 MiB.
+const BLANKS: usize = 1_048_402;
+
+/// The schema file with so many blanks before it.
+fn padded(alloc: Global, blanks: usize) -> Result<Vec<u8>, AllocError> {
+    let mut bytes = Vec::new(alloc);
+    bytes.extend_from_slice(" ".repeat(alloc, blanks)?.as_bytes())?;
+    bytes.extend_from_slice(SCHEMA)?;
+    Ok(bytes)
 }
 
 #[test]
 fn a_schema_file_has_at_most_a_mebibyte(rt: HostRuntime) -> Result<(), Fail> {
     let alloc = rt.alloc();
-    let mut bytes = Vec::new(alloc);
-    for _ in 0..(1 << 20) - SCHEMA.len() {
-        bytes.push(b' ')?;
-    }
-    bytes.extend_from_slice(SCHEMA)?;
-    let mut clock = FixedClock::at(0);
-    for (number, report) in [(0, "created v1\n"), (3, "fault script 1 limit\n")] {
-        let mut store = MemoryStore::new(alloc);
-        let mut inputs = MemoryInputs::with_files(one_file(alloc, "s.json", bytes.as_slice())?, 0);
-        let mut out = MemorySink::new(alloc, 128, 0)?;
-        let status = run_program(
-            alloc,
-            CREATE.as_slice(),
-            &mut store,
-            &mut inputs,
-            &mut out,
-            &mut clock,
-        );
-        assert_eq!(rt; status.number(), number);
-        assert_eq!(rt; out.bytes(), report.as_bytes());
-        bytes.push(b' ')?;
-    }
+    let most = padded(alloc, BLANKS)?;
+    let more = padded(alloc, BLANKS + 1)?;
+    let store = MemoryStore::new(alloc);
+    assert!(rt; ends(alloc, most.as_slice(), store, 0, "created v1\n")?);
+    let store = MemoryStore::new(alloc);
+    assert!(rt; ends(alloc, more.as_slice(), store, 3, "fault script 1 limit\n")?);
     Ok(())
 }
