@@ -22,15 +22,11 @@ mod schema_fault;
 mod schema_reader;
 mod schema_text;
 mod schema_writer;
-#[cfg(test)]
-mod tests;
 mod word;
 mod write;
 mod writing;
 mod writing_laws;
 mod writing_leaf;
-#[cfg(test)]
-mod writing_tests;
 
 pub use datum::{Datum, MapPair};
 pub use fault::{DatumFault, FaultKind, Spot, Stop};

@@ -9,12 +9,8 @@ mod container;
 mod fault;
 mod header;
 mod pairs;
-#[cfg(test)]
-mod tests;
 mod writer;
 mod writing;
-#[cfg(test)]
-mod writing_tests;
 
 pub use block::next_block;
 pub use container::{Container, one_container, read_container};

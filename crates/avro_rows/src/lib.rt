@@ -10,8 +10,6 @@ mod laws;
 mod reading;
 mod row_fault;
 mod source;
-#[cfg(test)]
-mod tests;
 mod value;
 
 pub use avro_container::Container;

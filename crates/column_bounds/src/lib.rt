@@ -4,8 +4,6 @@
 mod bound;
 mod laws;
 mod stats;
-#[cfg(test)]
-mod tests;
 mod writing;
 
 pub use bound::read_bound;

@@ -22,8 +22,6 @@ mod numbers;
 mod partition_kinds;
 mod places;
 mod statistics;
-#[cfg(test)]
-mod tests;
 
 pub use entry::{Content, Entry};
 pub use laws::entries_are_of_their_spec;

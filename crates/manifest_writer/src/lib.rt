@@ -16,8 +16,6 @@ mod manifest_meta;
 mod part_datum;
 mod part_names;
 mod part_schema;
-#[cfg(test)]
-mod tests;
 mod value;
 
 pub use laws::a_written_manifest_is_read_again;

@@ -8,8 +8,6 @@ mod commit;
 mod edits;
 mod laws;
 mod new_table;
-#[cfg(test)]
-mod tests;
 mod writing;
 
 pub use commit::{text_with_snapshot, with_snapshot};

@@ -4,8 +4,6 @@
 mod members;
 mod schema_json;
 mod spec_json;
-#[cfg(test)]
-mod tests;
 
 pub use schema_json::schema_text;
 pub use spec_json::spec_text;

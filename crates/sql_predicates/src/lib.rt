@@ -10,8 +10,6 @@ mod laws;
 mod normal_form;
 mod positions;
 mod pred;
-#[cfg(test)]
-mod tests;
 mod truth;
 
 pub use evaluation::eval;

@@ -14,8 +14,6 @@ mod reference;
 mod runs;
 mod statement;
 mod tables;
-#[cfg(test)]
-mod tests;
 
 pub use effect::{Effect, NewRow, PlainFault, SqlRefusal};
 pub use filter::filter_of;

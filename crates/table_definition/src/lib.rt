@@ -7,8 +7,6 @@ mod identifier;
 mod last_ids;
 mod nesting;
 mod new_table;
-#[cfg(test)]
-mod tests;
 
 pub use definition::{Definition, DefinitionFault, read_definition};
 pub use new_table::first_text;

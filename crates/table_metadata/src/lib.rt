@@ -24,8 +24,6 @@ mod snapshots;
 mod spec_fault;
 mod spec_json;
 mod table_keys;
-#[cfg(test)]
-mod tests;
 mod transform_text;
 
 pub use metadata::Metadata;

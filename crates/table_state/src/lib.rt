@@ -15,6 +15,3 @@ pub use laws::branches_stand_when_files_are_added;
 pub use live_set::{BranchState, LiveSet};
 pub use load_fault::LoadFault;
 pub use paths::name_of;
-
-#[cfg(test)]
-mod tests;

@@ -5,8 +5,8 @@ ghost use Rattle.std.specs.List.{AllByRecursion};
 ghost use Rattle.avro_binary.specs.Shape.{long_shape};
 ghost use Rattle.avro_binary.specs.Spelling.{Fits};
 
-use super::{Container, read_container, write_container};
 use avro_binary::{Datum, Logical, Schema};
+use avro_container::{Container, read_container, write_container};
 use plain_types::List;
 use std::alloc::{AllocError, Global};
 

@@ -1,6 +1,6 @@
 //! A worked file, every front of it, and files with one thing changed.
 
-use super::{ContainerFault, read_container};
+use avro_container::{ContainerFault, read_container};
 use std::alloc::{AllocError, Global};
 
 const FILE: [u8; 60] = [

@@ -1,9 +1,9 @@
-use crate::{
+use row_values::Kind;
+use sql_predicates::{Op, Operand};
+use sql_statements::{
     Action, Clause, Column, Expr, List, Merge, PlainFault, Pred, Row, Set, Source, SqlRefusal,
     Statement, TableSchema, Text, Value, When, are_wide, plain, sources_are_wide,
 };
-use row_values::Kind;
-use sql_predicates::{Op, Operand};
 use std::alloc::{AllocError, Global};
 
 /// A row of two numbers, of which a missing one is NULL.

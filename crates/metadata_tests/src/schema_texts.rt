@@ -1,5 +1,5 @@
-use crate::{schema_text, spec_text};
 use row_values::{Column, Kind, List, PartField, Spec, TableSchema, Text, Transform};
+use schema_json::{schema_text, spec_text};
 use std::alloc::{AllocError, Global};
 use std::test::Fail;
 

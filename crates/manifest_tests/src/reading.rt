@@ -1,8 +1,10 @@
 //! A manifest and a list whose schemas may have one field of another type or under another id, each with one entry or
 //! row. Sequence number 7 and snapshot 42 are those of the list's row.
 
-use crate::{Entry, ManifestContent, ManifestFault, ManifestRow, read_list, read_manifest};
 use column_bounds::{ColumnStats, Summary};
+use manifest_files::{
+    Entry, ManifestContent, ManifestFault, ManifestRow, read_list, read_manifest,
+};
 use row_values::{Bytes, Column, Kind, List, PartField, Spec, TableSchema, Text, Transform, Value};
 use std::alloc::{AllocError, Global};
 use std::test::Fail;

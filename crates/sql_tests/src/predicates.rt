@@ -1,4 +1,4 @@
-use crate::{
+use sql_predicates::{
     Boxed, Expr, ExprFault, List, Op, Operand, Pred, Row, Truth, Value, eval, eval_expr, normal,
 };
 use std::alloc::{AllocError, Global};

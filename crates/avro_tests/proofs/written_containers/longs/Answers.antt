@@ -6,7 +6,7 @@ use Rattle.avro_binary.specs.declared.datum.Datum as datums
 use Rattle.avro_binary.specs.Shape.{long_shape}
 use Rattle.avro_binary.specs.Spelling.{Fits, IsSignedOf}
 use Rattle.avro_container.proofs.LongLaws.{one_more_long}
-use Rattle.avro_container.proofs.writing_tests.longs.Goals as goal
+use Rattle.avro_tests.proofs.written_containers.longs.Goals as goal
 
 pub loop-n-preserved : goal.loop-n-preserved
 loop-n-preserved c =

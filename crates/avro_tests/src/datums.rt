@@ -1,6 +1,6 @@
 //! Worked rows of the encoding and of schema texts, and bad input by tables of cases.
 
-use super::{Datum, DatumFault, SchemaFault, read_datum, read_schema};
+use avro_binary::{Datum, DatumFault, SchemaFault, read_datum, read_schema};
 use std::alloc::{AllocError, Global};
 
 /// How many bytes a datum takes, or why there is none. A schema that isn't read counts as memory.

@@ -1,6 +1,6 @@
 //! Worked rows of what is written: a datum or a schema is read, and written again.
 
-use super::{read_datum, read_schema, write_datum, write_schema};
+use avro_binary::{read_datum, read_schema, write_datum, write_schema};
 use std::alloc::Global;
 
 /// Whether the datum that these bytes spell is written as the others.

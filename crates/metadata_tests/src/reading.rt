@@ -1,8 +1,8 @@
-use crate::{Metadata, MetadataFault, TransformFault, read_metadata, read_transform};
 use row_values::{Kind, Text, Transform};
 use std::alloc::{AllocError, Global};
 use std::process::Abort;
 use std::test::Fail;
+use table_metadata::{Metadata, MetadataFault, TransformFault, read_metadata, read_transform};
 
 // After the example of valid metadata in Iceberg's own tests.
 const GOOD: &str = r#"{

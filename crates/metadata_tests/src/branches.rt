@@ -1,9 +1,9 @@
-use crate::{head_of, name_of, snapshot_with};
 use plain_types::Text;
 use std::alloc::{AllocError, Global};
 use std::test::Fail;
 use store_core::{Blob, File, List, MemoryStore, Name};
 use table_metadata::{RefItem, Snapshot};
+use table_state::{head_of, name_of, snapshot_with};
 
 // Whether a path of a table with this location has this name in the folder `f` of the store.
 fn is_named(

@@ -1,8 +1,8 @@
 //! A list and a manifest that are written and read again.
 
-use crate::{write_list, write_manifest};
 use column_bounds::{ColumnStats, Stats, Summary};
 use manifest_files::{Content, Entry, ManifestContent, ManifestRow, read_list, read_manifest};
+use manifest_writer::{write_list, write_manifest};
 use row_values::{Bytes, Column, Kind, List, PartField, Spec, TableSchema, Text, Transform, Value};
 use std::alloc::{AllocError, Global};
 

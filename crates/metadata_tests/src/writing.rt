@@ -1,4 +1,6 @@
-use crate::{NewTable, first_version, metadata_text, text, text_with_snapshot, with_snapshot};
+use metadata_writer::{
+    NewTable, first_version, metadata_text, text, text_with_snapshot, with_snapshot,
+};
 use plain_types::{Bytes, Text};
 use serde_json::{Value, json};
 use std::alloc::{AllocError, Global};

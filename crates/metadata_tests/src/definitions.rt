@@ -1,8 +1,8 @@
-use crate::{DefinitionFault, first_text, read_definition};
 use plain_types::Bytes;
 use std::alloc::{AllocError, Global};
 use std::process::Abort;
 use std::test::Fail;
+use table_definition::{DefinitionFault, first_text, read_definition};
 
 const SMALL: &str =
     r#"{"schema":{"schema-id":0,"fields":[{"id":1,"name":"x","required":true,"type":"long"}]}}"#;

@@ -1,7 +1,7 @@
 //! One record with two fields, the first of which is another column's, and what is read of the second.
 
-use super::{Column, Container, Kind, List, Row, RowFault, TableSchema, Value, read_rows};
 use avro_binary::{Boxed, Datum, Field, Items, Logical, Octets, Schema};
+use avro_rows::{Column, Container, Kind, List, Row, RowFault, TableSchema, Value, read_rows};
 use row_values::{Bytes, Text};
 use std::alloc::{AllocError, Global};
 use std::test::Fail;

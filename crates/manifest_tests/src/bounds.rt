@@ -1,4 +1,4 @@
-use crate::{Kind, List, Value, read_bound, write_bound};
+use column_bounds::{Kind, List, Value, read_bound, write_bound};
 use row_values::Text;
 use std::alloc::{AllocError, Global};
 use std::test::Fail;
