@@ -76,7 +76,7 @@ sessions_apart run session other m n f s e =
 
 -- ---- the laws
 
-module _ (table session bytes : List ℕ) (run n : ℕ) (files : Files) (fits : n < 2 ^ 127) (none : NoneFrom table run session n files) where
+module _ (table session bytes : List ℕ) (run n : ℕ) (files : Files) (none : NoneFrom table run session n files) where
   later_apart : (m : ℕ) → n + 1 ≤ m → m < 2 ^ 128 → named run session m ending ≢ named run session n ending
   later_apart m above m_fits e =
       let same = same_number m n m_fits (omega arith) (same_texts run session m n e) in

@@ -5,8 +5,8 @@ ghost use Rattle.file_names.specs.FileNames.{HasNoHyphen, NoneFrom, data_name, m
 
 /// A file under the number that was drawn leaves the names of all later numbers free.
 pub fn a_file_leaves_the_later_names_free()
-    ensures data { (table session bytes : Seq ℕ) (run n : ℕ) (files : Files) → n < 2 ^ 127 → NoneFrom table run session n files → NoneFrom table run session (n + 1) (with_file (data_name table run session n) bytes files) }
-    ensures metadata { (table session bytes : Seq ℕ) (run n : ℕ) (files : Files) → n < 2 ^ 127 → NoneFrom table run session n files → NoneFrom table run session (n + 1) (with_file (metadata_name table run session n) bytes files) }
+    ensures data { (table session bytes : Seq ℕ) (run n : ℕ) (files : Files) → NoneFrom table run session n files → NoneFrom table run session (n + 1) (with_file (data_name table run session n) bytes files) }
+    ensures metadata { (table session bytes : Seq ℕ) (run n : ℕ) (files : Files) → NoneFrom table run session n files → NoneFrom table run session (n + 1) (with_file (metadata_name table run session n) bytes files) }
 {}
 
 /// A file of another session leaves all names of this one free, where no session's name has a hyphen.

@@ -9,7 +9,7 @@ use std::alloc::{AllocError, Global};
 pub struct Names {
     pub run: u64,
     pub session: Text,
-    /// The number of the next file, below 2^127.
+    /// The number of the next file.
     pub next: u128,
 }
 
@@ -19,7 +19,7 @@ impl Names {
 
     /// A name for a file of data or deletes. Its number is not drawn again, also where memory runs out.
     pub fn data_name(&mut self, alloc: Global, table: &str) -> Result<String, AllocError>
-        requires { self.old.next < 2 ^ 127 }
+        requires { self.old.next + 1 < 2 ^ 128 }
         ensures name { IfOk result (λ name. string_bytes name ≡ data_name table.now self.old.run self.old.session self.old.next) }
         ensures drawn { self.new ≡ record self.old { next = self.old.next + 1 } }
     {
@@ -36,7 +36,7 @@ impl Names {
 
     /// A name for a manifest or a manifest list.
     pub fn metadata_name(&mut self, alloc: Global, table: &str) -> Result<String, AllocError>
-        requires { self.old.next < 2 ^ 127 }
+        requires { self.old.next + 1 < 2 ^ 128 }
         ensures name { IfOk result (λ name. string_bytes name ≡ metadata_name table.now self.old.run self.old.session self.old.next) }
         ensures drawn { self.new ≡ record self.old { next = self.old.next + 1 } }
     {
@@ -51,6 +51,21 @@ impl Names {
         )
     }
 
+    /// The path of the next manifest or manifest list, of a table with this location, where no slash ends it. It draws no
+    /// number.
+    pub fn metadata_path(&self, alloc: Global, location: &str) -> Result<String, AllocError>
+        ensures { IfOk result (λ path. string_bytes path ≡ metadata_name location.now self.now.run self.now.session self.now.next) }
+    {
+        name_in(
+            alloc,
+            location,
+            "/metadata/r",
+            self.run,
+            self.session.as_str(),
+            self.next,
+        )
+    }
+
     /// Who makes a version now. It draws no number.
     pub fn writer_text(&self, alloc: Global) -> Result<String, AllocError>
         ensures { IfOk result (λ text. string_bytes text ≡ writer_text self.now.run self.now.session self.now.next) }
@@ -62,7 +77,7 @@ impl Names {
     }
 
     fn draw(&mut self) -> u128
-        requires { self.old.next < 2 ^ 127 }
+        requires { self.old.next + 1 < 2 ^ 128 }
         ensures number { result ≡ self.old.next }
         ensures drawn { self.new ≡ record self.old { next = self.old.next + 1 } }
     {
