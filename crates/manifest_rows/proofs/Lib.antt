@@ -1,0 +1,3 @@
+pub mod ExactLaws
+pub mod ListedLaws
+pub mod ValueOrder

@@ -3,10 +3,12 @@
 
 mod commit_numbers;
 mod counts;
+mod laws;
 mod parts;
 mod row;
 mod sequence;
 mod summary;
 
 pub use commit_numbers::CommitNumbers;
+pub use laws::{a_row_can_be_listed, a_summary_is_exact};
 pub use row::row_of;
