@@ -98,8 +98,8 @@ module _ (side : Ordering) (k : Kind) (place : ℕ) (R : Value → Value → Ord
   all_covered bound (entry ∷ entries) kb h (now, later) =
       let others : Bool = list_all (λ e. by_option (part_at place e) (is_value k) true) entries in
       both (is_covered side bound (part_at place entry)) (list_all (λ e. is_covered side bound (part_at place e)) entries)
-        (covers bound (part_at place entry) kb (of_test (part_at place entry) (first (by_option (part_at place entry) (is_value k) true) others h)) now)
-        (all_covered bound entries kb (second (by_option (part_at place entry) (is_value k) true) others h) later)
+      (covers bound (part_at place entry) kb (of_test (part_at place entry) (first (by_option (part_at place entry) (is_value k) true) others h)) now)
+      (all_covered bound entries kb (second (by_option (part_at place entry) (is_value k) true) others h) later)
 
   extreme_covers : (entries : List Entry) → AreOfKind k place entries → AreCovered side (outermost_from side place None entries) place entries
   extreme_covers entries h =

@@ -12,3 +12,6 @@ mod summary;
 pub use commit_numbers::CommitNumbers;
 pub use laws::{a_row_can_be_listed, a_summary_is_exact};
 pub use row::row_of;
+
+#[cfg(test)]
+mod tests;
