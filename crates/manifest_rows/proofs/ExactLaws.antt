@@ -1,5 +1,5 @@
 -- The summary of a field is exact.
-use Rattle.std.proofs.Common.{◌≡◌, ℕ, suc, ◌<◌, ◌⊎◌, inl, inr, Bool, true, false, not, ◌&&◌, cond, List, [], ◌∷◌, length, Option, Some, None, refl, sym, ap, ◌∙◌, arith}
+use Rattle.std.proofs.Common.{◌≡◌, ℕ, suc, ◌⊎◌, inl, inr, Bool, true, false, not, cond, List, [], ◌∷◌, Option, Some, None, refl, sym, ap, ◌∙◌, arith}
 use Rattle.std.specs.Prelude.{⊤}
 use Rattle.std.specs.List.{Any, AllByRecursion, list_all}
 use Rattle.std.specs.declared.cmp.Ordering.{Ordering}
@@ -10,23 +10,12 @@ use Rattle.std.proofs.lemmas.Cmp.{upto, tied_itself, back_total}
 use Rattle.plain_types.specs.Steps.{by_option}
 use Rattle.row_values.specs.declared.kind.Kind.{Kind}
 use Rattle.row_values.specs.declared.value.Value.{Value}
-use Rattle.row_values.specs.Order.{value_cmp}
 use Rattle.row_values.specs.Rows.{is_value}
 use Rattle.manifest_files.specs.declared.entry.Entry.{Entry}
 use Rattle.manifest_rows.specs.Rows.{part_at, is_side, is_outside, outermost, outermost_from, least_at, greatest_at}
 use Rattle.manifest_rows.specs.Exact.{AreOfKind, is_inside, is_covered, AreCovered}
+use Rattle.manifest_rows.proofs.Conjunction.{first, second, both}
 use Rattle.manifest_rows.proofs.ValueOrder.{kind_cmp, kind_total, compares}
-
-first : (a b : Bool) → (a && b) ≡ true → a ≡ true
-first true b h = refl
-first false b h = absurd cc
-
-second : (a b : Bool) → (a && b) ≡ true → b ≡ true
-second true b h = h
-second false b h = absurd cc
-
-both : (a b : Bool) → a ≡ true → b ≡ true → (a && b) ≡ true
-both a b h i = ap (λ (c : Bool). c && b) h ∙ i
 
 turned : (o : Ordering) → is_gt o ≡ true → is_gt (ordering_reverse o) ≡ false
 turned Less h = absurd cc

@@ -1,5 +1,5 @@
 -- Values of one kind stand in a total order.
-use Rattle.std.proofs.Common.{◌≡◌, ℕ, ℤ, pos, Bool, true, false, ◌&&◌, cond, List, [], ◌∷◌, Option, Some, None, refl, sym, ap, ◌∙◌, arith}
+use Rattle.std.proofs.Common.{◌≡◌, ℕ, ℤ, pos, Bool, true, false, cond, List, [], ◌∷◌, Option, Some, None, refl, ap, arith}
 use Rattle.std.specs.Prelude.{◌==◌}
 use Rattle.std.specs.declared.cmp.Ordering.{Ordering}
 use Rattle.std.specs.Cmp.{IsTotalOrder}
@@ -13,6 +13,7 @@ use Rattle.row_values.specs.declared.value.Value.{Value}
 use Rattle.row_values.specs.declared.value.Value.TheVariants as value
 use Rattle.row_values.specs.Order.{value_cmp}
 use Rattle.row_values.specs.Rows.{is_value, has_digits}
+use Rattle.manifest_rows.proofs.Conjunction.{first}
 
 abbrev number_of : Value → ℤ
 number_of (value.Int n) = n
@@ -43,10 +44,6 @@ kind_total (kind.Timestamp utc) = on_total number_of int_cmp_total
 kind_total (kind.Decimal precision scale) = on_total number_of int_cmp_total
 kind_total kind.Text = on_total text_of nat_list_cmp_total
 kind_total kind.Bytes = on_total text_of nat_list_cmp_total
-
-first : (a b : Bool) → (a && b) ≡ true → a ≡ true
-first true b h = refl
-first false b h = absurd cc
 
 same_scale : (s t scale : ℕ) → (s == scale) ≡ true → (t == scale) ≡ true → (s == t) ≡ true
 same_scale s t scale h i = grind (arith, nat_tests)

@@ -1,6 +1,7 @@
 -- The row of a manifest list that says what a manifest holds (Iceberg specification, "Manifest Lists"). A file is live
 -- where its status is 0, existing, or 1, added ("Manifest Entry Fields").
-use Rattle.std.specs.Prelude.{ℕ, ◌+◌, ◌-◌, ◌^◌, min, nat_eq, nat_lt, ℤ, pos, int_le, Bool, true, false, ◌&&◌, if◌then◌else◌, List, [], ◌∷◌, map, length, slice_get, Option, Some, None, option_map, option_and_then, unwrap_or}
+use Rattle.std.specs.Prelude.{ℕ, ◌-◌, ◌^◌, min, nat_eq, nat_lt, ℤ, pos, Bool, true, false, ◌&&◌, if◌then◌else◌, List, [], ◌∷◌, map, length, slice_get, Option, Some, None, option_map, option_and_then, unwrap_or}
+use Rattle.std.specs.Int.{int_min}
 use Rattle.std.specs.List.{count_by, sum_by, list_any, range_with_len}
 use Rattle.std.specs.declared.cmp.Ordering.{Ordering}
 use Rattle.std.specs.declared.cmp.Ordering.TheVariants.{Less, Equal, Greater}
@@ -34,7 +35,7 @@ rows_with status entries = pos (min (sum_by (rows_in status) entries) (2 ^ 63 - 
 -- ---- the minimum data sequence number of all live files in the manifest (516)
 
 abbrev pub with_number : Option ℤ → Entry → Option ℤ
-with_number least entry = if is_live entry.status then Some (by_option least (λ number. if int_le number entry.seq then number else entry.seq) entry.seq) else least
+with_number least entry = if is_live entry.status then Some (by_option least (λ number. int_min number entry.seq) entry.seq) else least
 
 -- the least number of the live entries and of those before them
 abbrev pub least_from : Option ℤ → List Entry → Option ℤ

@@ -10,7 +10,7 @@ mod sequence;
 mod summary;
 
 pub use commit_numbers::CommitNumbers;
-pub use laws::{a_row_can_be_listed, a_summary_is_exact};
+pub use laws::{a_least_number_is_exact, a_row_can_be_listed, a_summary_is_exact};
 pub use row::row_of;
 
 #[cfg(test)]

@@ -13,8 +13,8 @@ fn with_number(least: Option<i64>, entry: &Entry) -> Option<i64>
         return least;
     }
     match least {
-        Some(number) if number <= entry.seq => Some(number),
-        _ => Some(entry.seq),
+        Some(number) => Some(number.min(entry.seq)),
+        None => Some(entry.seq),
     }
 }
 
