@@ -28,8 +28,8 @@ pub fn a_least_number_is_exact()
     ensures held { (seq : ℤ) → (entries : List Entry) → IsOfLive (least_number seq entries) entries ⊎ (NoneIsLive entries × (least_number seq entries ≡ seq)) }
 {}
 
-/// Each count of a row is there and in the range of its type, and each bound is bytes. So are the other numbers, where
-/// those of the spec, the commit and the entries are.
+/// Each count of a row is there and in the range of its type, and each bound is bytes. The other numbers are in theirs,
+/// where those of the spec, the commit and the entries are.
 pub fn a_row_can_be_listed()
     ensures counts { (path : List ℕ) → (size : ℕ) → (spec : Spec) → (content : ManifestContent) → (numbers : Numbers) → (entries : List Entry) → IsTrue (can_be_listed (row_of path size spec content numbers entries)) }
     ensures numbers { (path : List ℕ) → (size : ℕ) → (spec : Spec) → (content : ManifestContent) → (numbers : Numbers) → (entries : List Entry) → IsTrue (is_int spec.id) → IsTrue (is_long numbers.seq) → IsTrue (is_long numbers.snapshot) → HaveNumbers entries → IsTrue (has_numbers (row_of path size spec content numbers entries)) }
