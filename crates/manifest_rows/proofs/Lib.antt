@@ -1,0 +1,5 @@
+pub mod Conjunction
+pub mod ExactLaws
+pub mod ListedLaws
+pub mod NumberLaws
+pub mod ValueOrder
