@@ -11,6 +11,8 @@ mod literal;
 mod raw;
 mod read;
 mod script;
+#[cfg(test)]
+mod tests;
 mod values;
 
 pub use read::read_script;
