@@ -1,0 +1,7 @@
+pub mod Answer
+pub mod Front
+pub mod Grammar
+pub mod Items
+pub mod Literals
+pub mod Script
+pub mod Values

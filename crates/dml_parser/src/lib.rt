@@ -1,0 +1,19 @@
+//! Reads a script: its sessions and the statements that each of them runs, or the first fault and its line.
+//!
+//! A script is read item by item. In an item, words that are none come before what is out of form, then unknown names, values
+//! of another kind, and limits. Each reading function has a definition of its own in `specs/`, of the same name and shape.
+#![tactic(auto)]
+
+mod form;
+mod front;
+mod items;
+mod literal;
+mod raw;
+mod read;
+mod script;
+#[cfg(test)]
+mod tests;
+mod values;
+
+pub use read::read_script;
+pub use script::{Script, ScriptFault, SessionItem};

@@ -1,0 +1,14 @@
+//! The words of a script: what a text is cut into before its statements are read. Each word has the line that it begins on.
+#![tactic(auto)]
+
+mod keyword;
+mod lexer;
+mod states;
+#[cfg(test)]
+mod tests;
+mod word;
+
+pub use keyword::Keyword;
+pub use plain_types::{Bytes, List};
+pub use states::words_of;
+pub use word::{Mark, Placed, Word};
