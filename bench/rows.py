@@ -9,15 +9,14 @@ The program has to be built before, by `rt run` in `crates/dml_program`. What is
 
 import os
 import random
-import resource
 import subprocess
 import sys
-import time
 
 HERE = os.path.dirname(os.path.abspath(__file__))
 OUT = os.path.join(HERE, "out")
 sys.path.insert(0, os.path.join(HERE, "..", "samples"))
 
+import measure  # noqa: E402
 import tables  # noqa: E402
 
 PROGRAM = os.path.join(HERE, "..", "crates", "dml_program", "out", "dml_program")
@@ -38,22 +37,6 @@ def size(name):
     return os.path.getsize(os.path.join(OUT, name, "data", "a.avro"))
 
 
-def run(words, best_of=3):
-    """The least time in seconds, the peak memory in bytes and the output of a program."""
-    least, peak, text = None, 0, b""
-    for _ in range(best_of):
-        start = time.monotonic()
-        child = subprocess.Popen(words, cwd=OUT, stdout=subprocess.PIPE)
-        text = child.stdout.read()
-        _, status, usage = os.wait4(child.pid, 0)
-        took = time.monotonic() - start
-        if status != 0:
-            sys.exit("%s ended with %d" % (words, status))
-        least = took if least is None else min(least, took)
-        peak = max(peak, usage.ru_maxrss * 1024)
-    return least, peak, text
-
-
 def instructions(words):
     found = subprocess.run(["valgrind", "--tool=callgrind", "--callgrind-out-file=callgrind.out"] + words, cwd=OUT,
                            stdout=subprocess.DEVNULL, stderr=subprocess.PIPE, text=True)
@@ -68,8 +51,8 @@ def main():
     mode = sys.argv[1] if len(sys.argv) > 1 else "times"
     if mode == "times":
         name = table(1000000)
-        took, peak, text = run(ours(name))
-        plain, plain_peak, plain_text = run([PLAIN, name])
+        took, peak, text = measure.run(ours(name), OUT, 3)
+        plain, plain_peak, plain_text = measure.run([PLAIN, name], OUT, 3)
         if text != plain_text:
             sys.exit("the two programs print different rows")
         print("%d cores, a data file of %.1f MB" % (os.cpu_count(), size(name) / 1e6))

@@ -13,7 +13,8 @@ import shutil
 import subprocess
 import sys
 import tempfile
-import time
+
+import measure
 
 HERE = os.path.dirname(os.path.abspath(__file__))
 TOP = os.path.join(HERE, "..")
@@ -52,28 +53,10 @@ def build():
     subprocess.run(["rustc", "-O", "-o", PLAIN, os.path.join(HERE, "plain_writing.rs")], check=True)
 
 
-def run(program, name, best_of=20):
-    """The least time in seconds, the peak memory in bytes, and the bytes that a program writes."""
-    least, peak = None, 0
-    path = os.path.join(OUT, name)
-    for _ in range(best_of):
-        with open(path, "wb") as out:
-            start = time.monotonic()
-            child = subprocess.Popen([program], stdout=out)
-            _, status, usage = os.wait4(child.pid, 0)
-            took = time.monotonic() - start
-        if status != 0:
-            sys.exit("%s ended with %d" % (program, status))
-        least = took if least is None else min(least, took)
-        peak = max(peak, usage.ru_maxrss * 1024)
-    with open(path, "rb") as out:
-        return least, peak, out.read()
-
-
 def main():
     build()
-    took, peak, bytes_written = run(PROGRAM, "ours.avro")
-    plain, plain_peak, plain_bytes = run(PLAIN, "plain.avro")
+    took, peak, bytes_written = measure.run([PROGRAM], OUT, 20, "ours.avro")
+    plain, plain_peak, plain_bytes = measure.run([PLAIN], OUT, 20, "plain.avro")
     if bytes_written != plain_bytes:
         sys.exit("the two programs write different bytes")
     size = len(bytes_written)

@@ -1,25 +1,36 @@
 -- What is written of an answer.
-use Rattle.std.proofs.Common.{◌≡◌, ◌⊎◌, inl, inr, ℕ, ℤ, List, Option, Some, Result, Ok, Err, IfErr, sym, ap, subst, ◌∙◌, arith}
-use Rattle.std.specs.Option.{ForSome}
+use Rattle.std.proofs.Common.{◌≡◌, ◌⊎◌, inl, inr, ℕ, List, Option, refl, sym, ap, subst, ◌∙◌, arith}
 use Rattle.plain_types.specs.Causes.{Rose, RoseTwice}
-use Rattle.plain_types.specs.Steps.{by_option}
 use Rattle.store_core.specs.Files.{Files}
-use Rattle.command_line.specs.Words.{Wanted, rows, command_of}
-use Rattle.dml_program.specs.Answers.{Answer, done, refused, Carries, IsRefused, Leaves, Prints, Told, answer_of, report_lines, rows_answer, status_of, wanted_answer}
+use Rattle.dml_program.specs.Answers.{Answer, done, refused, Carries, IsRefused, Leaves, Prints, report_lines, status_of}
 use Rattle.dml_program.specs.Causes.{HasStoreCause}
-use Rattle.dml_program.specs.Opening.{table_rows}
+use Rattle.dml_program.specs.Statuses.{fault_lines}
 use Rattle.dml_program.specs.declared.status.Status.{Status}
 use Rattle.dml_program.specs.declared.status.Status.TheVariants as status
-
--- the answer of words that are a command
-pub leaves_of : (words : List (List ℕ)) (files given : Files) (now : ℤ) (w : Wanted) (s : Status) (new : Option Files) → command_of words ≡ Some w → Leaves (wanted_answer files given now w) s files new → Leaves (answer_of words files given now) s files new
-leaves_of words files given now w s new is left = subst (λ o. Leaves (by_option o (wanted_answer files given now) (refused status.Usage)) s files new) (sym is) left
 
 -- lines that an answer prints are its report
 pub printed : (a : Answer) (lines : List ℕ) (s : Status) → Prints a lines → (s ≡ status.Done) ⊎ (s ≡ status.OutputFailed) → report_lines a s ≡ lines
 printed (done wanted left) lines s e (inl is) = ap (report_lines (done wanted left)) is ∙ sym e
 printed (done wanted left) lines s e (inr is) = ap (report_lines (done wanted left)) is ∙ sym e
 printed (refused refusal) lines s e is = absurd e
+
+-- a call that wrote its lines is done, or its output failed
+module _ (a : Answer) (lines : List ℕ) (s : Status) (prints : Prints a lines) (is : (s ≡ status.Done) ⊎ (s ≡ status.OutputFailed)) where
+  pub done_carried : (failed : Type 0) → Carries failed a s
+  done_carried failed = by_answer a prints is
+    where
+      by_answer : (b : Answer) → Prints b lines → (s ≡ status.Done) ⊎ (s ≡ status.OutputFailed) → Carries failed b s
+      by_answer (done wanted left) p (inl e) = subst (Carries failed (done wanted left)) (sym e) tt
+      by_answer (done wanted left) p (inr e) = subst (Carries failed (done wanted left)) (sym e) tt
+      by_answer (refused refusal) p e = absurd p
+
+  pub done_completes : (failed : Type 0) → (s ≡ status.OutputFailed → failed) → ¬ failed → (s ≡ status.Memory) ⊎ (s ≡ status_of a)
+  done_completes failed cause none = by_answer a prints is
+    where
+      by_answer : (b : Answer) → Prints b lines → (s ≡ status.Done) ⊎ (s ≡ status.OutputFailed) → (s ≡ status.Memory) ⊎ (s ≡ status_of b)
+      by_answer (done wanted left) p (inl e) = inr e
+      by_answer (done wanted left) p (inr e) = absurd (none (cause e))
+      by_answer (refused refusal) p e = absurd p
 
 -- want of memory may come where a status is refused
 pub memory_leaves : (a : Answer) (s : Status) (files : Files) (new : Option Files) → IsRefused s → Leaves a s files new → Leaves a status.Memory files new
@@ -46,11 +57,6 @@ lifted failed a status.OutputFailed c = c
 lifted failed a (status.StateUnknown session number) c = c
 lifted failed a status.Memory c = c
 
--- `rows` looks at no input and at no clock
-pub rows_carried : {X : Type 0} (r : Result X Status) (failed : Type 0) (words : List (List ℕ)) (table : List ℕ) (store contents : Option Files) (time : Option ℤ) → command_of words ≡ Some (rows table) → IfErr r (λ s. ForSome store (λ f. Carries ⊥ (rows_answer f (table_rows table f)) s)) → IfErr r (λ s. Told store contents time (λ f g n. Carries failed (answer_of words f g n) s))
-rows_carried (Ok x) failed words table store contents time asks carried = tt
-rows_carried (Err s) failed words table store contents time asks carried = λ f told g given n now. subst (λ o. Carries failed (by_option o (wanted_answer f g n) (refused status.Usage)) s) (sym asks) (lifted failed (rows_answer f (table_rows table f)) s (carried f told))
-
 rose_once : (before now : ℕ) → RoseTwice before now → Rose before now
 rose_once before now twice = omega arith
 
@@ -76,3 +82,27 @@ completes failed a status.OutputFailed result before now unsettled r c cause non
 pub left_by : (a : Answer) (s result : Status) (files : Files) (new : Option Files) → IsRefused s → Leaves a s files new → (result ≡ s) ⊎ (result ≡ status.Memory) → Leaves a result files new
 left_by a s result files new r left (inl e) = subst (λ t. Leaves a t files new) (sym e) left
 left_by a s result files new r left (inr e) = subst (λ t. Leaves a t files new) (sym e) (memory_leaves a s files new r left)
+
+pub done_leaves : (a : Answer) (s : Status) (files : Files) (new : Option Files) → Leaves a status.Done files new → (s ≡ status.Done) ⊎ (s ≡ status.OutputFailed) → Leaves a s files new
+done_leaves a s files new left (inl e) = subst (λ t. Leaves a t files new) (sym e) left
+done_leaves a s files new left (inr e) = subst (λ t. Leaves a t files new) (sym e) left
+
+-- what a call that stopped ends with
+pub carried_on : (failed : Type 0) (a : Answer) (s result : Status) → Carries failed a s → (result ≡ s) ⊎ (result ≡ status.Memory) → Carries failed a result
+carried_on failed a s result c (inl e) = subst (Carries failed a) (sym e) c
+carried_on failed a s result c (inr e) = subst (Carries failed a) (sym e) tt
+
+refused_report : (a : Answer) (s : Status) → IsRefused s → report_lines a s ≡ fault_lines s
+refused_report a status.Usage r = refl
+refused_report a (status.ScriptBad line kind) r = refl
+refused_report a (status.TableBad kind path) r = refl
+refused_report a status.StoreFailed r = refl
+refused_report a (status.InputFailed name) r = refl
+refused_report a (status.StateUnknown session number) r = refl
+refused_report a status.Memory r = refl
+refused_report a status.Done r = absurd r
+refused_report a status.OutputFailed r = absurd r
+
+pub fault_report : (a : Answer) (s result : Status) → IsRefused s → (result ≡ s) ⊎ (result ≡ status.Memory) → report_lines a result ≡ fault_lines result
+fault_report a s result r (inl e) = refused_report a result (subst IsRefused (sym e) r)
+fault_report a s result r (inr e) = ap (report_lines a) e ∙ ap fault_lines (sym e)

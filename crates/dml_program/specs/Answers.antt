@@ -1,9 +1,8 @@
 -- What a call of the program answers: the answer that is wanted, how the status carries it, the lines that it prints and
 -- the files that it leaves.
-use Rattle.std.specs.Prelude.{◌≡◌, ◌⊎◌, ℕ, ℤ, List, [], Option, Some, Result, Ok, Err}
+use Rattle.std.specs.Prelude.{◌≡◌, ◌⊎◌, ℕ, ℤ, List, [], Option, Some, None, Result, Ok, Err}
 use Rattle.std.specs.Option.{ForSome}
 use Rattle.plain_types.specs.Causes.{Rose}
-use Rattle.plain_types.specs.Steps.{by_option}
 use Rattle.row_values.specs.declared.value.Value.{Value}
 use Rattle.store_core.specs.Files.{Files, with_file}
 use Rattle.store_core.specs.Written.{appended, TakesFront}
@@ -31,17 +30,26 @@ abbrev pub create_answer : List ℕ → Files → Result (List ℕ) Status → A
 create_answer table files (Ok bytes) = done created_lines (with_file (version_name table 1) bytes files)
 create_answer table files (Err refusal) = refused refusal
 
--- the answer that a command wants over the files of a store, the contents of the inputs and the time
-abbrev pub wanted_answer : Files → Files → ℤ → Wanted → Answer
-wanted_answer files given now (rows table) = rows_answer files (table_rows table files)
-wanted_answer files given now (create table schema) = create_answer table files (first_version_of table schema files given now)
-
-abbrev pub answer_of : List (List ℕ) → Files → Files → ℤ → Answer
-answer_of words files given now = by_option (command_of words) (wanted_answer files given now) (refused status.Usage)
-
 -- where the store, the inputs and the clock tell
-abbrev pub Told : Option Files → Option Files → Option ℤ → (Files → Files → ℤ → Type 0) → Type 0
-Told files given now holds = ForSome files (λ f. ForSome given (λ g. ForSome now (λ n. holds f g n)))
+abbrev pub AllTold : Option Files → Option Files → Option ℤ → (Files → Files → ℤ → Type 0) → Type 0
+AllTold files given now holds = ForSome files (λ f. ForSome given (λ g. ForSome now (λ n. holds f g n)))
+
+-- Something holds of the files of the store and of the answer that a command wants, where all that it looks at tells: the
+-- store, and where a table is made the inputs and the clock too.
+abbrev pub ToldOf : Option Wanted → Option Files → Option Files → Option ℤ → (Files → Answer → Type 0) → Type 0
+ToldOf None files given now holds = ForSome files (λ f. holds f (refused status.Usage))
+ToldOf (Some (rows table)) files given now holds = ForSome files (λ f. holds f (rows_answer f (table_rows table f)))
+ToldOf (Some (create table schema)) files given now holds = AllTold files given now (λ f g n. holds f (create_answer table f (first_version_of table schema f g n)))
+
+-- the same of the answer that words want
+abbrev pub Told : List (List ℕ) → Option Files → Option Files → Option ℤ → (Files → Answer → Type 0) → Type 0
+Told words files given now holds = ToldOf (command_of words) files given now holds
+
+-- a command that makes no table
+abbrev pub OnlyReads : Option Wanted → Type 0
+OnlyReads None = Unit {0}
+OnlyReads (Some (rows table)) = Unit {0}
+OnlyReads (Some (create table schema)) = ⊥
 
 abbrev pub IsDone : Answer → Type 0
 IsDone (done lines left) = Unit {0}

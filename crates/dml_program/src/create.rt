@@ -5,7 +5,7 @@ ghost use Rattle.plain_types.specs.Causes.{Rose};
 ghost use Rattle.store_core.specs.Files.{Files, KeepsFiles};
 ghost use Rattle.table_definition.specs.Definition.{asked, definition_of};
 ghost use Rattle.table_names.specs.Versions.{version_of};
-ghost use Rattle.dml_program.specs.Answers.{Carries, Leaves, Prints, Told, create_answer, so_far};
+ghost use Rattle.dml_program.specs.Answers.{AllTold, Carries, Leaves, Prints, create_answer, so_far};
 ghost use Rattle.dml_program.specs.Causes.{HasInputCause, HasStoreCause, IsFormStop, IsSettled, IsStop};
 ghost use Rattle.dml_program.specs.Opening.{IsRefusal};
 ghost use Rattle.dml_program.specs.Creating.{Stops, asked_by, bad_file, file_given, first_version_of, has_no_version, if_plain, is_not_compressed, is_plain, may_be_made};
@@ -32,9 +32,9 @@ pub(crate) fn create<S: Store, I: Inputs, C: Clock>(
     table: &str,
     schema: &str,
 ) -> Result<Vec<u8>, Status>
-    ensures found { IfOk result (λ lines. Told (S.files store.old) (I.contents inputs.old) (C.time clock.old) (λ files given now. Prints (create_answer table.now files (first_version_of table.now schema.now files given now)) lines.items)) }
-    ensures refused { IfErr result (λ status. Told (S.files store.old) (I.contents inputs.old) (C.time clock.old) (λ files given now. Carries (Rose (I.faults inputs.old) (I.faults inputs.new)) (create_answer table.now files (first_version_of table.now schema.now files given now)) status)) }
-    ensures leaves { Told (S.files store.old) (I.contents inputs.old) (C.time clock.old) (λ files given now. Leaves (create_answer table.now files (first_version_of table.now schema.now files given now)) (so_far result) files (S.files store.new)) }
+    ensures found { IfOk result (λ lines. AllTold (S.files store.old) (I.contents inputs.old) (C.time clock.old) (λ files given now. Prints (create_answer table.now files (first_version_of table.now schema.now files given now)) lines.items)) }
+    ensures refused { IfErr result (λ status. AllTold (S.files store.old) (I.contents inputs.old) (C.time clock.old) (λ files given now. Carries (Rose (I.faults inputs.old) (I.faults inputs.new)) (create_answer table.now files (first_version_of table.now schema.now files given now)) status)) }
+    ensures leaves { AllTold (S.files store.old) (I.contents inputs.old) (C.time clock.old) (λ files given now. Leaves (create_answer table.now files (first_version_of table.now schema.now files given now)) (so_far result) files (S.files store.new)) }
     ensures kept { KeepsFiles (S.files store.old) (S.files store.new) }
     ensures kind { IfErr result IsStop }
     ensures store { IfErr result (λ status. HasStoreCause status (S.faults store.old) (S.faults store.new) (S.unsettled store.new)) }
@@ -62,8 +62,8 @@ fn first_version<S: Store, I: Inputs, C: Clock>(
     table: &str,
     schema: &str,
 ) -> Result<Blob, Status>
-    ensures found { IfOk result (λ text. Told (S.files store.old) (I.contents inputs.old) (C.time clock.old) (λ files given now. first_version_of table.now schema.now files given now ≡ Ok text)) }
-    ensures refused { IfErr result (λ status. Told (S.files store.old) (I.contents inputs.old) (C.time clock.old) (λ files given now. Stops (Rose (I.faults inputs.old) (I.faults inputs.new)) (first_version_of table.now schema.now files given now) status)) }
+    ensures found { IfOk result (λ text. AllTold (S.files store.old) (I.contents inputs.old) (C.time clock.old) (λ files given now. first_version_of table.now schema.now files given now ≡ Ok text)) }
+    ensures refused { IfErr result (λ status. AllTold (S.files store.old) (I.contents inputs.old) (C.time clock.old) (λ files given now. Stops (Rose (I.faults inputs.old) (I.faults inputs.new)) (first_version_of table.now schema.now files given now) status)) }
     ensures fresh { OnOk result (ForSome (S.files store.old) (λ files. version_of table.now files ≡ None)) }
     ensures files { S.files store.new ≡ S.files store.old }
     ensures kind { IfErr result IsStop }

@@ -4,7 +4,7 @@ ghost use Rattle.std.specs.Option.{ForSome};
 ghost use Rattle.plain_types.specs.Causes.{Rose};
 ghost use Rattle.store_core.specs.Files.{KeepsFiles};
 ghost use Rattle.command_line.specs.Words.{command_of, texts};
-ghost use Rattle.dml_program.specs.Answers.{Carries, IsRefused, Leaves, Prints, Told, Writes, answer_of, report_lines, rows_answer, so_far, status_of};
+ghost use Rattle.dml_program.specs.Answers.{Carries, IsRefused, Leaves, OnlyReads, Prints, Told, Writes, report_lines, rows_answer, so_far, status_of};
 ghost use Rattle.dml_program.specs.Causes.{HasInputCause, HasStoreCause, IsSettled};
 ghost use Rattle.dml_program.specs.Opening.{IsRefusal, table_rows};
 ghost use Rattle.dml_program.specs.Statuses.{fault_lines};
@@ -32,21 +32,22 @@ pub fn run_program<S: Store, I: Inputs, K: Sink, C: Clock>(
     // The answer is the one that the words, the files, the inputs and the time want, or names what failed.
     ensures usage { result ≡ Status.Usage → command_of (texts words.now) ≡ None }
     ensures refused { command_of (texts words.now) ≡ None → (result ≡ Status.Usage) ⊎ (result ≡ Status.Memory) }
-    ensures answer { Told (S.files store.old) (I.contents inputs.old) (C.time clock.old) (λ files given now. Carries (Rose (I.faults inputs.old) (I.faults inputs.new)) (answer_of (texts words.now) files given now) result) }
+    ensures answer { Told (texts words.now) (S.files store.old) (I.contents inputs.old) (C.time clock.old) (λ files answer. Carries (Rose (I.faults inputs.old) (I.faults inputs.new)) answer result) }
 
     // A failure has its cause, and where nothing failed the wanted answer comes, or want of memory.
     ensures store { HasStoreCause result (S.faults store.old) (S.faults store.new) (S.unsettled store.new) }
     ensures input { HasInputCause result (I.contents inputs.old) (I.faults inputs.old) (I.faults inputs.new) }
     ensures output_failed { result ≡ Status.OutputFailed → Rose (K.faults out.old) (K.faults out.new) }
     ensures complete { ¬ Rose (S.faults store.old) (S.faults store.new) → ¬ Rose (I.faults inputs.old) (I.faults inputs.new) → ¬ Rose (K.faults out.old) (K.faults out.new)
-        → Told (S.files store.old) (I.contents inputs.old) (C.time clock.old) (λ files given now. (result ≡ Status.Memory) ⊎ (result ≡ status_of (answer_of (texts words.now) files given now))) }
+        → Told (texts words.now) (S.files store.old) (I.contents inputs.old) (C.time clock.old) (λ files answer. (result ≡ Status.Memory) ⊎ (result ≡ status_of answer)) }
     ensures quiet { result ≡ Status.Done → IsSettled (S.faults store.old) (S.faults store.new) (S.unsettled store.new) × (I.faults inputs.new ≡ I.faults inputs.old) × (K.faults out.new ≡ K.faults out.old) }
 
     // The files are those of the answer, and each that was there is as it was. The report is whole, or a front of it by a
     // sink that failed.
-    ensures leaves { Told (S.files store.old) (I.contents inputs.old) (C.time clock.old) (λ files given now. Leaves (answer_of (texts words.now) files given now) result files (S.files store.new)) }
+    ensures leaves { Told (texts words.now) (S.files store.old) (I.contents inputs.old) (C.time clock.old) (λ files answer. Leaves answer result files (S.files store.new)) }
+    ensures only_reads { OnlyReads (command_of (texts words.now)) → S.files store.new ≡ S.files store.old }
     ensures kept { KeepsFiles (S.files store.old) (S.files store.new) }
-    ensures report { Told (S.files store.old) (I.contents inputs.old) (C.time clock.old) (λ files given now. Writes (report_lines (answer_of (texts words.now) files given now) result) (K.written out.old) (K.written out.new) (K.faults out.old) (K.faults out.new)) }
+    ensures report { Told (texts words.now) (S.files store.old) (I.contents inputs.old) (C.time clock.old) (λ files answer. Writes (report_lines answer result) (K.written out.old) (K.written out.new) (K.faults out.old) (K.faults out.new)) }
     ensures fault_lines { IsRefused result → Writes (fault_lines result) (K.written out.old) (K.written out.new) (K.faults out.old) (K.faults out.new) }
 {
     match carry_out(alloc, words, store, inputs, clock) {
@@ -63,9 +64,10 @@ fn carry_out<S: Store, I: Inputs, C: Clock>(
     inputs: &mut I,
     clock: &mut C,
 ) -> Result<Vec<u8>, Status>
-    ensures found { IfOk result (λ lines. Told (S.files store.old) (I.contents inputs.old) (C.time clock.old) (λ files given now. Prints (answer_of (texts words.now) files given now) lines.items)) }
-    ensures refused { IfErr result (λ status. Told (S.files store.old) (I.contents inputs.old) (C.time clock.old) (λ files given now. Carries (Rose (I.faults inputs.old) (I.faults inputs.new)) (answer_of (texts words.now) files given now) status)) }
-    ensures leaves { Told (S.files store.old) (I.contents inputs.old) (C.time clock.old) (λ files given now. Leaves (answer_of (texts words.now) files given now) (so_far result) files (S.files store.new)) }
+    ensures found { IfOk result (λ lines. Told (texts words.now) (S.files store.old) (I.contents inputs.old) (C.time clock.old) (λ files answer. Prints answer lines.items)) }
+    ensures refused { IfErr result (λ status. Told (texts words.now) (S.files store.old) (I.contents inputs.old) (C.time clock.old) (λ files answer. Carries (Rose (I.faults inputs.old) (I.faults inputs.new)) answer status)) }
+    ensures leaves { Told (texts words.now) (S.files store.old) (I.contents inputs.old) (C.time clock.old) (λ files answer. Leaves answer (so_far result) files (S.files store.new)) }
+    ensures only_reads { OnlyReads (command_of (texts words.now)) → S.files store.new ≡ S.files store.old }
     ensures kept { KeepsFiles (S.files store.old) (S.files store.new) }
     ensures kind { IfErr result IsRefused }
     ensures usage { IsErrOf result Status.Usage → command_of (texts words.now) ≡ None }
@@ -89,7 +91,7 @@ fn rows<S: Store>(alloc: Global, store: &mut S, table: &str) -> Result<Vec<u8>, 
     ensures found { IfOk result (λ lines. ForSome (S.files store.old) (λ files. Prints (rows_answer files (table_rows table.now files)) lines.items)) }
     ensures refused { IfErr result (λ status. ForSome (S.files store.old) (λ files. Carries ⊥ (rows_answer files (table_rows table.now files)) status)) }
     ensures leaves { ForSome (S.files store.old) (λ files. Leaves (rows_answer files (table_rows table.now files)) (so_far result) files (S.files store.new)) }
-    ensures kept { KeepsFiles (S.files store.old) (S.files store.new) }
+    ensures files { S.files store.new ≡ S.files store.old }
     ensures kind { IfErr result IsRefusal }
     ensures store { IfErr result (λ status. HasStoreCause status (S.faults store.old) (S.faults store.new) (S.unsettled store.new)) }
     ensures quiet { OnOk result (S.faults store.new ≡ S.faults store.old) }

@@ -5,13 +5,7 @@ use store_core::Clock;
 /// The system's clock. It tells no number beforehand.
 #[derive(Drop)]
 pub struct SystemClock<R> {
-    rt: R,
-}
-
-impl<R: std::time::Clock> SystemClock<R> {
-    pub fn new(rt: R) -> SystemClock<R> {
-        SystemClock { rt }
-    }
+    pub rt: R,
 }
 
 impl<R: std::time::Clock> Clock for SystemClock<R> {

@@ -1,9 +1,10 @@
 -- The names of the files that a run puts, which no other file has: each bears the run's number, its session, and a number of
 -- its own. A table's data lies in `data`, its manifests and manifest lists in `metadata` (Iceberg specification, "File System
 -- Tables").
-use Rattle.std.specs.Prelude.{◌≡◌, ◌≢◌, ◌≤◌, ◌<◌, ◌^◌, ℕ, ⊤, codes, List, [], ◌∷◌, ◌++◌, None}
+use Rattle.std.specs.Prelude.{◌≡◌, ◌≢◌, ◌≤◌, ◌<◌, ◌^◌, ℕ, codes, List, ◌++◌, None}
 use Rattle.std.specs.FinMap as map
 use Rattle.std.specs.Fmt.{decimal}
+use Rattle.std.specs.List.{AllByRecursion}
 use Rattle.store_core.specs.Files.{Files}
 
 -- <run>-<session>-<number>, and what follows
@@ -22,8 +23,7 @@ writer_text run session n = codes "r" ++ named run session n (codes "w")
 
 -- A session's name is of letters, digits and underscores, so it has no hyphen.
 abbrev pub HasNoHyphen : List ℕ → Type 0
-HasNoHyphen [] = ⊤
-HasNoHyphen (b ∷ bs) = (b ≢ 45) × HasNoHyphen bs
+HasNoHyphen name = AllByRecursion (λ byte. byte ≢ 45) name
 
 -- no file has a name of this run and session with a number from this one on
 pub record NoneFrom (table : List ℕ) (run : ℕ) (session : List ℕ) (from : ℕ) (files : Files) : Type 0 where

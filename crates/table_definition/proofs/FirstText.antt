@@ -4,6 +4,8 @@ use Rattle.serde_json.specs.Data.{Data, null, array, object, no_items, no_member
 use Rattle.serde_json.specs.Find.{get}
 use Rattle.serde_json.specs.Written.{compact_text, has_float}
 use Rattle.plain_types.specs.Steps.{by_option}
+use Rattle.row_values.specs.declared.partition.PartField.{PartField}
+use Rattle.row_values.specs.declared.schema.Column.{Column}
 use Rattle.table_metadata.specs.Metadata.{json_of, metadata_of}
 use Rattle.table_metadata.specs.TableKeys.{is_uuid}
 use Rattle.table_metadata.proofs.SchemaSoundness.{sound_schema}
@@ -18,7 +20,7 @@ use Rattle.table_definition.specs.Definition.{Asked, definition_of}
 use Rattle.table_definition.specs.FirstText.{first_text, made_of, parts_made, schema_json}
 use Rattle.table_definition.specs.LastIds.{last_column, last_partition}
 use Rattle.table_definition.proofs.AskedParts.{IsAsked, asked_parts}
-use Rattle.table_definition.proofs.LastIds.{no_column_above, no_field_above}
+use Rattle.table_definition.proofs.LastIds.{none_above}
 
 -- what was found, or else another
 either_within : (n : ℕ) (o : Option Data) (e : Data) → FoundWithin n o → Within n e → Within n (by_option o (λ d. d) e)
@@ -53,7 +55,7 @@ made location now a is fits long = record {
   reads_spec = is.spec;
   are_texts = is.are_texts;
   reads_properties = is.properties;
-  ids = sound_schema-fits (last_column a.schema.columns) (last_partition a.spec.fields) a.schema a.spec (sound_schema (schema_json a.json) a.schema is.schema) (alone _ (no_column_above (neg_ℤ (pos (2 ^ 31))) a.schema.columns)) (alone _ (no_field_above (pos 999) a.spec.fields));
+  ids = sound_schema-fits (last_column a.schema.columns) (last_partition a.spec.fields) a.schema a.spec (sound_schema (schema_json a.json) a.schema is.schema) (alone _ (none_above (λ (column : Column). column.id) (neg_ℤ (pos (2 ^ 31))) a.schema.columns)) (alone _ (none_above (λ (field : PartField). field.field) (pos 999) a.spec.fields));
   last_column = fits.last_column;
   last_partition = fits.last_partition;
   created = long;

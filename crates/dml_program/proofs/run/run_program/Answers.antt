@@ -1,21 +1,64 @@
 use Rattle.std.proofs.Common.{ℕ, List, sym, subst}
 use Rattle.command_line.specs.Words.{texts}
-use Rattle.dml_program.specs.Answers.{Prints, Writes, answer_of}
-use Rattle.dml_program.proofs.Reports.{completes, left_by, printed}
+use Rattle.dml_program.specs.Answers.{Prints, Writes, report_lines}
+use Rattle.dml_program.proofs.Reports.{carried_on, completes, done_carried, done_completes, done_leaves, fault_report, left_by, printed}
+use Rattle.dml_program.proofs.ToldAnswers.{told_anyway, told_map}
 use Rattle.dml_program.proofs.run.run_program.Goals as goal
 
+-- ---- the lines were written, or the output failed
+
+pub returns-in-Ok-clause-answer : goal.returns-in-Ok-clause-answer
+returns-in-Ok-clause-answer g c =
+    told_map (texts c.args.words.now) (g.S.Store.files c.args.store.now) (g.I.Inputs.contents c.args.inputs.now) (g.C.Clock.time c.args.clock.now) _ _
+    (λ files answer prints. done_carried answer c.in-Ok.lines.items c.write_lines.result prints c.write_lines.ensures.status _)
+    c.in-Ok.ensures.found
+
+pub returns-in-Ok-clause-complete : goal.returns-in-Ok-clause-complete
+returns-in-Ok-clause-complete g c store_kept inputs_kept out_kept =
+    told_map (texts c.args.words.now) (g.S.Store.files c.args.store.now) (g.I.Inputs.contents c.args.inputs.now) (g.C.Clock.time c.args.clock.now) _ _
+    (λ files answer prints. done_completes answer c.in-Ok.lines.items c.write_lines.result prints c.write_lines.ensures.status _ c.write_lines.ensures.output_failed out_kept)
+    c.in-Ok.ensures.found
+
+pub returns-in-Ok-clause-leaves : goal.returns-in-Ok-clause-leaves
+returns-in-Ok-clause-leaves g c =
+    told_map (texts c.args.words.now) (g.S.Store.files c.args.store.now) (g.I.Inputs.contents c.args.inputs.now) (g.C.Clock.time c.args.clock.now) _ _
+    (λ files answer left. done_leaves answer c.write_lines.result files (g.S.Store.files c.carry_out.new.store) left c.write_lines.ensures.status)
+    c.in-Ok.ensures.leaves
+
 pub returns-in-Ok-clause-report : goal.returns-in-Ok-clause-report
-returns-in-Ok-clause-report g c files told inputs given now time =
-    let answer = answer_of (texts c.args.words.now) files inputs now in
-    let prints : Prints answer c.as_slice.result.now = subst (Prints answer) (sym c.as_slice.ensures.value) (c.in-Ok.ensures.found files told inputs given now time) in
+returns-in-Ok-clause-report g c =
+    told_map (texts c.args.words.now) (g.S.Store.files c.args.store.now) (g.I.Inputs.contents c.args.inputs.now) (g.C.Clock.time c.args.clock.now) _ _
+    (λ files answer prints.
     subst (λ (lines : List ℕ). Writes lines (g.K.Sink.written c.args.out.now) (g.K.Sink.written c.write_lines.new.out) (g.K.Sink.faults c.args.out.now) (g.K.Sink.faults c.write_lines.new.out))
-    (sym (printed answer c.as_slice.result.now c.write_lines.result prints c.write_lines.ensures.status))
-    c.write_lines.ensures.report
+    (sym (printed answer c.as_slice.result.now c.write_lines.result (subst (Prints answer) (sym c.as_slice.ensures.value) prints) c.write_lines.ensures.status))
+    c.write_lines.ensures.report)
+    c.in-Ok.ensures.found
+
+-- ---- the call stopped
+
+pub returns-in-Err-clause-answer : goal.returns-in-Err-clause-answer
+returns-in-Err-clause-answer g c =
+    told_map (texts c.args.words.now) (g.S.Store.files c.args.store.now) (g.I.Inputs.contents c.args.inputs.now) (g.C.Clock.time c.args.clock.now) _ _
+    (λ files answer carried. carried_on _ answer c.in-Err.status c.write_fault.result carried c.write_fault.ensures.status)
+    c.in-Err.ensures.refused
 
 pub returns-in-Err-clause-complete : goal.returns-in-Err-clause-complete
-returns-in-Err-clause-complete g c store_kept inputs_kept out_kept files told inputs given now time =
-    completes _ (answer_of (texts c.args.words.now) files inputs now) c.in-Err.status c.write_fault.result (g.S.Store.faults c.args.store.now) (g.S.Store.faults c.carry_out.new.store) (g.S.Store.unsettled c.carry_out.new.store) c.in-Err.ensures.kind (c.in-Err.ensures.refused files told inputs given now time) c.in-Err.ensures.store inputs_kept store_kept c.write_fault.ensures.status
+returns-in-Err-clause-complete g c store_kept inputs_kept out_kept =
+    told_map (texts c.args.words.now) (g.S.Store.files c.args.store.now) (g.I.Inputs.contents c.args.inputs.now) (g.C.Clock.time c.args.clock.now) _ _
+    (λ files answer carried. completes _ answer c.in-Err.status c.write_fault.result (g.S.Store.faults c.args.store.now) (g.S.Store.faults c.carry_out.new.store) (g.S.Store.unsettled c.carry_out.new.store) c.in-Err.ensures.kind carried c.in-Err.ensures.store inputs_kept store_kept c.write_fault.ensures.status)
+    c.in-Err.ensures.refused
 
 pub returns-in-Err-clause-leaves : goal.returns-in-Err-clause-leaves
-returns-in-Err-clause-leaves g c files told inputs given now time =
-    left_by (answer_of (texts c.args.words.now) files inputs now) c.in-Err.status c.write_fault.result files (g.S.Store.files c.carry_out.new.store) c.in-Err.ensures.kind (c.in-Err.ensures.leaves files told inputs given now time) c.write_fault.ensures.status
+returns-in-Err-clause-leaves g c =
+    told_map (texts c.args.words.now) (g.S.Store.files c.args.store.now) (g.I.Inputs.contents c.args.inputs.now) (g.C.Clock.time c.args.clock.now) _ _
+    (λ files answer left. left_by answer c.in-Err.status c.write_fault.result files (g.S.Store.files c.carry_out.new.store) c.in-Err.ensures.kind left c.write_fault.ensures.status)
+    c.in-Err.ensures.leaves
+
+pub returns-in-Err-clause-report : goal.returns-in-Err-clause-report
+returns-in-Err-clause-report g c =
+    told_anyway (texts c.args.words.now) (g.S.Store.files c.args.store.now) (g.I.Inputs.contents c.args.inputs.now) (g.C.Clock.time c.args.clock.now)
+    (λ files answer. Writes (report_lines answer c.write_fault.result) (g.K.Sink.written c.args.out.now) (g.K.Sink.written c.write_fault.new.out) (g.K.Sink.faults c.args.out.now) (g.K.Sink.faults c.write_fault.new.out))
+    (λ files told answer.
+    subst (λ (lines : List ℕ). Writes lines (g.K.Sink.written c.args.out.now) (g.K.Sink.written c.write_fault.new.out) (g.K.Sink.faults c.args.out.now) (g.K.Sink.faults c.write_fault.new.out))
+    (sym (fault_report answer c.in-Err.status c.write_fault.result c.in-Err.ensures.kind c.write_fault.ensures.status))
+    c.write_fault.ensures.report)

@@ -1,4 +1,4 @@
-use Rattle.std.proofs.Common.{◌≡◌, ℕ, List, ◌++◌, codes, string_bytes, IfOk, subst, sym, ap, ◌∙◌}
+use Rattle.std.proofs.Common.{◌≡◌, ℕ, List, ◌++◌, codes, string_bytes, IfOk, subst, ap, ◌∙◌}
 use Rattle.file_names.specs.FileNames.{named}
 use Rattle.file_names.specs.declared.names.Names.{Names}
 use Rattle.file_names.proofs.names.Names.metadata_name.Goals as goal

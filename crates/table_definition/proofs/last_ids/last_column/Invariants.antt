@@ -1,0 +1,12 @@
+use Rattle.std.proofs.Common.{◌≡◌, fold, length, map}
+use Rattle.std.specs.Int.{int_max}
+use Rattle.row_values.specs.declared.schema.Column.{Column}
+use Rattle.table_definition.specs.LastIds.{last_column}
+use Rattle.table_definition.proofs.last_ids.last_column.Given as goal
+
+-- the ids that are left give the same answer
+abbrev pub invariant-loop-rest : goal.invariant-loop-rest
+invariant-loop-rest l = fold int_max l.greatest (map (λ (column : Column). column.id) l.rest) ≡ last_column l.columns
+
+abbrev pub decreases-loop-rest : goal.decreases-loop-rest
+decreases-loop-rest l = length l.rest
