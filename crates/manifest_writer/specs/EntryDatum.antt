@@ -1,10 +1,10 @@
 -- How the entries of a manifest are written (Iceberg specification, "Manifests" and "Sequence Number Inheritance").
-use Rattle.std.specs.Prelude.{ℕ, nat_eq, ℤ, pos, List, [], ◌∷◌, ◌++◌, Option, Some, None, map, codes, if◌then◌else◌}
+use Rattle.std.specs.Prelude.{ℕ, nat_eq, ℤ, pos, List, [], ◌∷◌, ◌++◌, length, Option, Some, None, map, codes, if◌then◌else◌}
 use Rattle.std.specs.List.{AllByRecursion}
 use Rattle.std.specs.Str.{IsUtf8}
 use Rattle.avro_binary.specs.declared.datum.Datum.{Datum}
 use Rattle.avro_binary.specs.declared.datum.Datum.TheVariants as datum
-use Rattle.avro_binary.specs.Spelling.{IsSignedOf}
+use Rattle.avro_binary.specs.Spelling.{IsSignedOf, spelling}
 use Rattle.avro_container.specs.ContainerText.{container_text}
 use Rattle.manifest_files.specs.declared.entry.Content.{Content}
 use Rattle.manifest_files.specs.declared.entry.Content.TheVariants as content
@@ -53,6 +53,10 @@ file_values spec schema entry = head_values spec schema entry ++ fact_values ent
 
 abbrev pub datum_of_entry : Spec → TableSchema → Entry → Datum
 datum_of_entry spec schema entry = datum.Record (number_values entry ++ datum.Record (file_values spec schema entry) ∷ [])
+
+-- how many bytes an entry takes
+abbrev pub entry_size : Spec → TableSchema → Entry → ℕ
+entry_size spec schema entry = length (spelling (datum_of_entry spec schema entry))
 
 -- the bytes of the manifest of these entries
 abbrev pub manifest_text : List Entry → Spec → TableSchema → List ℕ

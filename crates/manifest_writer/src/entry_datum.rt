@@ -4,7 +4,7 @@ ghost use Rattle.std.specs.List.{AllByRecursion};
 ghost use Rattle.avro_binary.specs.Spelling.{IsSignedOf};
 ghost use Rattle.std.specs.Str.{IsUtf8};
 ghost use Rattle.manifest_writer.specs.Facts.{HasIds};
-ghost use Rattle.manifest_writer.specs.EntryDatum.{status_number, content_number, own_number, id_datum, ids_value, number_values, head_values, fact_values, file_values, datum_of_entry, HasNumbers, HasFile, IsEntry};
+ghost use Rattle.manifest_writer.specs.EntryDatum.{status_number, content_number, own_number, id_datum, ids_value, number_values, head_values, fact_values, file_values, datum_of_entry, entry_size, HasNumbers, HasFile, IsEntry};
 
 use crate::fact::Fact;
 use crate::fact_datum::fact_value;
@@ -13,7 +13,7 @@ use crate::value::{
     count_number, int_datum, long_datum, null_branch, optional_long, optional_text, text_datum,
     value_branch,
 };
-use avro_binary::{Datum, Items, Octets};
+use avro_binary::{Datum, Items, Octets, put_each};
 use column_bounds::ColumnStats;
 use manifest_files::{Content, Entry};
 use row_values::{Spec, TableSchema};
@@ -153,6 +153,21 @@ fn datum_of_entry(
     let file = file_values(alloc, spec, schema, entry)?;
     values.push(Datum::Record(Items::from_vec(file)))?;
     Ok(Datum::Record(Items::from_vec(values)))
+}
+
+/// How many bytes the entry takes among the entries of a manifest.
+pub fn entry_size(
+    alloc: Global,
+    spec: &Spec,
+    schema: &TableSchema,
+    entry: &Entry,
+) -> Result<usize, AllocError>
+    ensures { IfOk result (λ size. size ≡ entry_size spec.now schema.now entry.now) }
+{
+    let datums = [datum_of_entry(alloc, spec, schema, entry)?];
+    let mut bytes = Vec::new(alloc);
+    put_each(datums.as_slice(), &mut bytes)?;
+    Ok(bytes.len())
 }
 
 pub(crate) fn datums_of_entries(

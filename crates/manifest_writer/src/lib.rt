@@ -18,6 +18,7 @@ mod part_names;
 mod part_schema;
 mod value;
 
+pub use entry_datum::entry_size;
 pub use laws::a_written_manifest_is_read_again;
 pub use list::{a_written_list_is_read_again, write_list};
 pub use manifest::write_manifest;

@@ -57,8 +57,9 @@ fn read_file<S: Store>(
     }
 }
 
+/// The partition spec with an id.
 #[tactic(auto, unfolding(crate::specs::Files::spec_with))]
-fn spec_with(id: i32, specs: &[Spec]) -> Option<&Spec>
+pub fn spec_with(id: i32, specs: &[Spec]) -> Option<&Spec>
     ensures { option_copied result ≡ spec_with id specs.now }
 {
     let mut rest = specs;
@@ -71,8 +72,9 @@ fn spec_with(id: i32, specs: &[Spec]) -> Option<&Spec>
     None
 }
 
+/// The schema with an id.
 #[tactic(auto, unfolding(crate::specs::Files::schema_with))]
-fn schema_with(id: i32, schemas: &[TableSchema]) -> Option<&TableSchema>
+pub fn schema_with(id: i32, schemas: &[TableSchema]) -> Option<&TableSchema>
     ensures { option_copied result ≡ schema_with id schemas.now }
 {
     let mut rest = schemas;

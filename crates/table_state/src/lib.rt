@@ -10,7 +10,7 @@ mod load_fault;
 mod paths;
 
 pub use branches::{head_of, snapshot_with};
-pub use files::{read_data_file_at, read_list_at, read_manifest_at};
+pub use files::{read_data_file_at, read_list_at, read_manifest_at, schema_with, spec_with};
 pub use laws::branches_stand_when_files_are_added;
 pub use live_set::{BranchState, LiveSet};
 pub use load_fault::LoadFault;

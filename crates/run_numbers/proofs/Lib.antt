@@ -1,0 +1,2 @@
+mod LeastMissing
+mod RunNames
