@@ -1,5 +1,5 @@
 -- The word in front: what has to stand there, and what stands there in a form that is not read yet.
-use Rattle.std.specs.Prelude.{ℕ, List, [], ◌∷◌, Bool, true, false, Result, Ok, Err, ⊤, if◌then◌else◌}
+use Rattle.std.specs.Prelude.{ℕ, List, [], ◌∷◌, Bool, true, false, Ok, Err, ⊤, if◌then◌else◌}
 use Rattle.plain_types.specs.Steps.{fault_if}
 use Rattle.script_words.specs.declared.keyword.Keyword.TheVariants as key
 use Rattle.script_words.specs.declared.word.Mark.TheVariants as mark

@@ -5,7 +5,7 @@
 --   column    = name | name "." name
 --
 -- Forms that the whole language has and that are not read yet are told by the first word that is none of these.
-use Rattle.std.specs.Prelude.{ℕ, ◌==◌, not, nat_eq, codes, length, List, [], ◌∷◌, ◌++◌, Bool, true, false, Option, Some, None, Result, Ok, Err, if◌then◌else◌}
+use Rattle.std.specs.Prelude.{ℕ, ◌==◌, not, nat_eq, codes, length, List, [], ◌∷◌, ◌++◌, Bool, true, false, Option, Some, None, Ok, Err, if◌then◌else◌}
 use Rattle.std.specs.Cmp.Lexicographic.{pointwise}
 use Rattle.plain_types.specs.Steps.{◌>>=◌, fault_if}
 use Rattle.row_values.specs.declared.schema.Column.{Column}

@@ -1,6 +1,6 @@
 -- What an item means, once its form is known: names first, then kinds, then limits. A name is a column of the table, compared
 -- exactly, and `t` may stand before it.
-use Rattle.std.specs.Prelude.{ℕ, nat_eq, nat_lt, not, codes, ◌+◌, List, [], ◌∷◌, Bool, true, Option, Some, None, Result, Ok, Err, ⊤, if◌then◌else◌}
+use Rattle.std.specs.Prelude.{ℕ, nat_eq, nat_lt, not, codes, ◌+◌, List, [], ◌∷◌, Bool, true, Option, Some, None, Ok, ⊤, if◌then◌else◌}
 use Rattle.std.specs.Cmp.Lexicographic.{pointwise}
 use Rattle.plain_types.specs.Steps.{◌>>=◌, fault_if, or_fault}
 use Rattle.row_values.specs.declared.kind.Kind.{Kind}

@@ -1,5 +1,5 @@
 -- Literals and names. A literal is NULL, TRUE, FALSE, a number or a string; those of DATE, TIMESTAMP and X are not read yet.
-use Rattle.std.specs.Prelude.{ℕ, ◌==◌, ◌&&◌, ◌||◌, not, nat_lt, nat_le, length, List, [], ◌∷◌, Bool, true, false, Result, Ok, Err, if◌then◌else◌}
+use Rattle.std.specs.Prelude.{ℕ, ◌==◌, ◌&&◌, ◌||◌, not, nat_lt, nat_le, length, List, [], ◌∷◌, Bool, true, false, Ok, Err, if◌then◌else◌}
 use Rattle.std.specs.Str.{byte}
 use Rattle.plain_types.specs.Steps.{◌>>=◌}
 use Rattle.script_words.specs.declared.keyword.Keyword.{Keyword}

@@ -3,7 +3,7 @@
 --   script = { item ";" }
 --
 -- In an item a word that is none comes first, then what is out of form, unknown names, values of another kind, and limits.
-use Rattle.std.specs.Prelude.{ℕ, nat_lt, length, codes, List, [], ◌∷◌, ◌++◌, Bool, true, false, Option, Some, None, Result, Ok, Err, ⊤, if◌then◌else◌}
+use Rattle.std.specs.Prelude.{ℕ, nat_lt, length, List, [], ◌∷◌, ◌++◌, Bool, true, false, Option, Some, None, Ok, Err, ⊤, if◌then◌else◌}
 use Rattle.plain_types.specs.Steps.{◌>>=◌}
 use Rattle.row_values.specs.declared.schema.Column.{Column}
 use Rattle.row_values.specs.declared.schema.TableSchema.{TableSchema}

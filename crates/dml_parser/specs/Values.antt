@@ -1,6 +1,6 @@
 -- The value that a literal is in the kind of its column, and the limit of texts. A number without a point is a value of int
 -- and long in their ranges; one in a decimal column is not read yet.
-use Rattle.std.specs.Prelude.{ℕ, ℤ, pos, neg_ℤ, ◌==◌, ◌-◌, ◌^◌, nat_lt, length, List, [], ◌∷◌, ◌++◌, Bool, Option, Some, None, option_and_then, option_map, Result, Ok, Err, ⊤, if◌then◌else◌}
+use Rattle.std.specs.Prelude.{ℕ, ℤ, pos, neg_ℤ, ◌==◌, ◌-◌, ◌^◌, nat_lt, length, List, [], ◌∷◌, ◌++◌, Bool, Option, Some, None, option_and_then, option_map, Ok, Err, ⊤, if◌then◌else◌}
 use Rattle.std.specs.Str.{byte, is_utf8}
 use Rattle.plain_types.specs.Digits.{number_at}
 use Rattle.plain_types.specs.Steps.{◌>>=◌, by_option, fault_if}

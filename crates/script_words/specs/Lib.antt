@@ -1,3 +1,4 @@
 pub mod Keywords
 pub mod Lexer
+pub mod PlainNames
 pub mod Words

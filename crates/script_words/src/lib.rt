@@ -3,12 +3,14 @@
 
 mod keyword;
 mod lexer;
+mod plain_name;
 mod states;
 #[cfg(test)]
 mod tests;
 mod word;
 
 pub use keyword::Keyword;
+pub use plain_name::is_plain_name;
 pub use plain_types::{Bytes, List};
 pub use states::words_of;
 pub use word::{Mark, Placed, Word};

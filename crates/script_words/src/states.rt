@@ -26,13 +26,13 @@ fn is_blank(byte: u8) -> bool
     byte == b' ' || byte == b'\t' || byte == b'\n' || byte == b'\r'
 }
 
-fn is_digit(byte: u8) -> bool
+pub(crate) fn is_digit(byte: u8) -> bool
     ensures { result ≡ spec.is_digit byte }
 {
     b'0' <= byte && byte <= b'9'
 }
 
-fn is_name_start(byte: u8) -> bool
+pub(crate) fn is_name_start(byte: u8) -> bool
     ensures { result ≡ spec.is_name_start byte }
 {
     (b'A' <= byte && byte <= b'Z') || (b'a' <= byte && byte <= b'z') || byte == b'_'

@@ -1,0 +1,4 @@
+pub mod Folders
+pub mod Held
+pub mod NewIds
+pub mod Puts

@@ -1,0 +1,6 @@
+pub mod Commits
+pub mod Drafts
+pub mod Holding
+pub mod Puts
+pub mod SnapshotIds
+pub mod Sorting

@@ -1,0 +1,26 @@
+//! What holds of all commits. Each law is the contract of a function that does nothing.
+ghost use Rattle.std.specs.Prelude.{◌≡◌, ◌++◌, ◌<◌, ◌^◌, ℤ, false, List as Seq, length, map};
+ghost use Rattle.plain_types.specs.Bags.{SameBag};
+ghost use Rattle.row_values.specs.declared.partition.Spec.{Spec};
+ghost use Rattle.row_values.specs.declared.schema.TableSchema.{TableSchema};
+ghost use Rattle.manifest_files.specs.declared.manifest_row.ManifestRow.{ManifestRow};
+ghost use Rattle.table_state.specs.declared.live_set.LiveSet.{LiveSet as Live};
+ghost use Rattle.table_load.specs.declared.state.LiveCount.{LiveCount as Count};
+ghost use Rattle.change_sets.specs.declared.change.AddedAs.{AddedAs};
+ghost use Rattle.change_sets.specs.declared.change.ChangeSet.{ChangeSet};
+ghost use Rattle.change_sets.specs.Laid.{as_kept, laid};
+ghost use Rattle.commit_builder.specs.Holding.{held_after};
+ghost use Rattle.table_load.specs.States.{IsParted};
+ghost use Rattle.commit_builder.specs.SnapshotIds.{has_id, next_id};
+
+/// The manifests of a commit, those that are written and those that stand, hold live the files of the head with the change
+/// laid on them, each once, in some order and with some status, where each manifest of the head holds as many as is said.
+pub fn a_commit_holds_the_change()
+    ensures { (specs : Seq Spec) (schema : TableSchema) (numbers : AddedAs) (change : ChangeSet) (rows : Seq ManifestRow) (counts : Seq Count) (live : Live) → IsParted rows counts live.data_files live.deletes
+        → SameBag (map as_kept (held_after specs schema numbers change rows counts live)) (map as_kept ((laid numbers live change).data_files ++ (laid numbers live change).deletes)) }
+{}
+
+/// The id of a new snapshot is none of those that are there, where there are fewer than 2^62.
+pub fn the_next_id_is_new()
+    ensures { (ids : Seq ℤ) → length ids < 2 ^ 62 → has_id (next_id ids) ids ≡ false }
+{}

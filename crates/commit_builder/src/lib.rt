@@ -1,0 +1,12 @@
+//! Builds a commit: the manifests and the manifest list of a change laid on the head of a branch, and the metadata of the
+//! next version.
+#![tactic(auto)]
+
+mod drafts;
+mod head;
+mod laws;
+mod snapshot_ids;
+mod sorting;
+mod writing;
+
+pub use laws::{a_commit_holds_the_change, the_next_id_is_new};
