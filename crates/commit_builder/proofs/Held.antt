@@ -99,17 +99,17 @@ same_test id (one ∷ ids) = same_test_by (int_eq one id) id ids (same_test id i
     same_test_by false id ids h = h
 
 ids_once : (n : ℤ) (ids : List ℤ) (entries : List Entry) → times n ids ≤ 1 → times n (spec_ids ids entries) ≤ 1
-unfolding spec_ids insert
+unfolding spec_ids
 ids_once n ids [] one = one
 ids_once n ids (entry ∷ entries) one = ids_once n (insert entry.spec ids) entries (insert_once_by (list_any (λ one. int_eq one entry.spec) ids) n entry.spec ids (same_test entry.spec ids) one)
 
 ids_keep : (n : ℤ) (ids : List ℤ) (entries : List Entry) (k : ℕ) → k ≤ times n ids → k ≤ times n (spec_ids ids entries)
-unfolding spec_ids insert
+unfolding spec_ids
 ids_keep n ids [] k h = h
 ids_keep n ids (entry ∷ entries) k h = ids_keep n (insert entry.spec ids) entries k (omega (arith, insert_keeps_by (list_any (λ one. int_eq one entry.spec) ids) n entry.spec ids, h))
 
 ids_have : (ids : List ℤ) (entries : List Entry) (entry : Entry) → In entry entries → 1 ≤ times entry.spec (spec_ids ids entries)
-unfolding spec_ids insert
+unfolding spec_ids
 ids_have ids [] entry there = absurd there
 ids_have ids (first ∷ entries) entry (inl here) = subst (λ (e : Entry). 1 ≤ times e.spec (spec_ids (insert first.spec ids) entries)) (sym here) (ids_keep first.spec (insert first.spec ids) entries 1 (insert_has_by (list_any (λ one. int_eq one first.spec) ids) first.spec ids (same_test first.spec ids)))
 ids_have ids (first ∷ entries) entry (inr there) = ids_have (insert first.spec ids) entries entry there
