@@ -1,7 +1,8 @@
 -- A commit of a change onto the head of a branch (Iceberg specification, "Snapshots", "Sequence Numbers" and "Manifest
 -- Lists"): its snapshot, the files that it puts, and the version that it prepares.
-use Rattle.std.specs.Prelude.{ℕ, ◌+◌, ℤ, pos, ◌+ℤ◌, Bool, true, false, ◌&&◌, codes, if◌then◌else◌, List, [], ◌∷◌, ◌++◌, length, Option, Some, None}
+use Rattle.std.specs.Prelude.{ℕ, ◌+◌, ◌<◌, ◌^◌, ℤ, pos, ◌+ℤ◌, Bool, true, false, ◌&&◌, codes, if◌then◌else◌, List, [], ◌∷◌, ◌++◌, length, Option, Some, None}
 use Rattle.std.specs.Int.{int_max}
+use Rattle.std.specs.List.{AllByRecursion}
 use Rattle.plain_types.specs.Steps.{by_option}
 use Rattle.row_values.specs.declared.schema.TableSchema.{TableSchema}
 use Rattle.store_core.specs.Files.{Files, with_file}
@@ -10,8 +11,8 @@ use Rattle.file_names.specs.FileNames.{metadata_name, writer_text}
 use Rattle.manifest_files.specs.declared.manifest_row.ManifestRow.{ManifestRow}
 use Rattle.manifest_rows.specs.declared.commit_numbers.CommitNumbers.{CommitNumbers}
 use Rattle.manifest_rows.specs.Rows.{row_of}
-use Rattle.manifest_writer.specs.EntryDatum.{manifest_text}
-use Rattle.manifest_writer.specs.ListDatum.{list_text}
+use Rattle.manifest_writer.specs.EntryDatum.{manifest_text, IsEntry}
+use Rattle.manifest_writer.specs.ListDatum.{list_text, IsRow}
 use Rattle.table_metadata.specs.declared.snapshots.Snapshot.{Snapshot}
 use Rattle.table_state.specs.declared.live_set.BranchState.{BranchState}
 use Rattle.table_state.specs.declared.live_set.BranchState.TheVariants as state
@@ -57,12 +58,18 @@ drawn names = record names { next = names.next + 1 }
 abbrev pub next_name : List ℕ → Names → List ℕ
 next_name folder names = metadata_name folder names.run names.session names.next
 
-module _ (head : State) (schema : TableSchema) (numbers : CommitNumbers) where
-  abbrev pub text_in : Draft → List ℕ
+module _ (head : State) (schema : TableSchema) where
+  unfoldable pub text_in : Draft → List ℕ
   text_in draft = manifest_text draft.entries (spec_in head.metadata.specs draft.spec) schema
 
-  abbrev pub row_in : Names → Draft → ManifestRow
-  row_in names draft = row_of (next_name (folder_of head.metadata.location) names) (length (text_in draft)) (spec_in head.metadata.specs draft.spec) draft.content numbers draft.entries
+  -- texts and numbers have the ranges of their types, and the manifest has the length of a file
+  pub record IsSpelled (draft : Draft) : Type 0 where
+    pub entries : AllByRecursion IsEntry draft.entries
+    pub small : length (text_in draft) < 2 ^ 63
+
+module _ (head : State) (schema : TableSchema) (numbers : CommitNumbers) where
+  unfoldable pub row_in : Names → Draft → ManifestRow
+  row_in names draft = row_of (next_name (folder_of head.metadata.location) names) (length (text_in head schema draft)) (spec_in head.metadata.specs draft.spec) draft.content numbers draft.entries
 
   -- the rows of manifests that are put under the next names, behind those so far
   unfoldable pub rows_from : Names → List ManifestRow → List Draft → List ManifestRow
@@ -72,7 +79,7 @@ module _ (head : State) (schema : TableSchema) (numbers : CommitNumbers) where
   -- the files, with the manifests
   unfoldable pub files_from : Names → Files → List Draft → Files
   files_from names files [] = files
-  files_from names files (draft ∷ drafts) = files_from (drawn names) (with_file (next_name head.table names) (text_in draft) files) drafts
+  files_from names files (draft ∷ drafts) = files_from (drawn names) (with_file (next_name head.table names) (text_in head schema draft) files) drafts
 
 -- ---- the whole commit
 
@@ -96,6 +103,12 @@ drafts_in head change = (sorted_in head change).drafts.closed
 -- the rows of its list
 abbrev pub rows_in : State → ChangeSet → Names → List ManifestRow
 rows_in head change names = rows_from head (schema_of head) (commit_numbers (numbers_in head)) names [] (drafts_in head change) ++ (sorted_in head change).standing
+
+-- what it writes has the ranges of its types, and the length of files
+pub record AreSpelled (head : State) (change : ChangeSet) (names : Names) : Type 0 where
+  pub manifests : AllByRecursion (IsSpelled head (schema_of head)) (drafts_in head change)
+  pub rows : AllByRecursion IsRow (rows_in head change names)
+  pub small : length (list_text (rows_in head change names)) < 2 ^ 63
 
 -- the names behind its manifests, of which the list has the first
 abbrev pub list_names : State → ChangeSet → Names → Names

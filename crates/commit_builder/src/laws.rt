@@ -1,5 +1,5 @@
 //! What holds of all commits. Each law is the contract of a function that does nothing.
-ghost use Rattle.std.specs.Prelude.{◌≡◌, ◌++◌, ◌<◌, ◌^◌, ℤ, false, List as Seq, length, map};
+ghost use Rattle.std.specs.Prelude.{◌≡◌, ◌++◌, ◌<◌, ◌^◌, ℕ, ℤ, false, List as Seq, length, map, Some};
 ghost use Rattle.plain_types.specs.Bags.{SameBag};
 ghost use Rattle.row_values.specs.declared.partition.Spec.{Spec};
 ghost use Rattle.row_values.specs.declared.schema.TableSchema.{TableSchema};
@@ -9,8 +9,14 @@ ghost use Rattle.table_load.specs.declared.state.LiveCount.{LiveCount as Count};
 ghost use Rattle.change_sets.specs.declared.change.AddedAs.{AddedAs};
 ghost use Rattle.change_sets.specs.declared.change.ChangeSet.{ChangeSet};
 ghost use Rattle.change_sets.specs.Laid.{as_kept, laid};
+ghost use Rattle.file_names.specs.declared.names.Names.{Names as Drawn};
+ghost use Rattle.file_names.specs.FileNames.{NoneFrom};
+ghost use Rattle.store_core.specs.Files.{Files, KeepsFiles};
+ghost use Rattle.table_load.specs.declared.state.State.{State as Loaded};
+ghost use Rattle.table_load.specs.States.{IsParted, IsStateOf};
+ghost use Rattle.commit_builder.specs.Commits.{AreSpelled, drafts_in, files_after};
 ghost use Rattle.commit_builder.specs.Holding.{held_after};
-ghost use Rattle.table_load.specs.States.{IsParted};
+ghost use Rattle.commit_builder.specs.NextVersion.{AreNames, CanBeLaid, HoldsChange};
 ghost use Rattle.commit_builder.specs.SnapshotIds.{has_id, next_id};
 
 /// The manifests of a commit, those that are written and those that stand, hold live the files of the head with the change
@@ -23,4 +29,13 @@ pub fn a_commit_holds_the_change()
 /// The id of a new snapshot is none of those that are there, where there are fewer than 2^62.
 pub fn the_next_id_is_new()
     ensures { (ids : Seq ℤ) → length ids < 2 ^ 62 → has_id (next_id ids) ids ≡ false }
+{}
+
+/// The branch of the version that a commit prepares has its snapshot, whose live files are those of the head with the change
+/// laid on them, in some order and with some status, in all files that keep what the commit put: where the head was loaded,
+/// names of the session are free, and what is written can be read again.
+pub fn a_prepared_version_holds_the_change()
+    ensures { (head : Loaded) (change : ChangeSet) (names : Drawn) (now : ℤ) (version : ℕ) (old files later : Files) → IsStateOf head.table version head.branch old head → KeepsFiles (Some old) (Some files)
+        → NoneFrom head.table names.run names.session names.next files → AreNames names → length (drafts_in head change) < 2 ^ 100 → AreSpelled head change names → CanBeLaid head change names now
+        → KeepsFiles (Some (files_after head change names files)) (Some later) → HoldsChange head change names now later }
 {}

@@ -2,6 +2,7 @@
 //! next version.
 #![tactic(auto)]
 
+mod commit;
 mod drafts;
 mod head;
 mod laws;
@@ -9,4 +10,7 @@ mod snapshot_ids;
 mod sorting;
 mod writing;
 
-pub use laws::{a_commit_holds_the_change, the_next_id_is_new};
+pub use commit::{Prepared, prepare};
+pub use laws::{
+    a_commit_holds_the_change, a_prepared_version_holds_the_change, the_next_id_is_new,
+};

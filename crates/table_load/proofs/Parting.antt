@@ -91,7 +91,7 @@ module _ (table : List ℕ) (p : Parts) (files : Files) where
       in_snapshot found.0 id rows live found.2
   in_branch branch None id rows live e = no_head (pointwise nat_eq branch (codes "main")) id rows live e
 
-  found_head : (branch : List ℕ) (id : ℤ) (rows : List ManifestRow) (live : LiveSet) → branch_at table p branch files ≡ Ok (state.Head id rows live) → (all : List Entry) × (entries_at table p [] rows files ≡ Ok all) × (set_of all ≡ live)
+  pub found_head : (branch : List ℕ) (id : ℤ) (rows : List ManifestRow) (live : LiveSet) → branch_at table p branch files ≡ Ok (state.Head id rows live) → (all : List Entry) × (entries_at table p [] rows files ≡ Ok all) × (set_of all ≡ live)
   unfolding branch_at
   found_head branch id rows live e = in_branch branch (head_of branch p.refs) id rows live e
 

@@ -1,0 +1,54 @@
+-- A commit that is read again (Iceberg specification, "Snapshots", "Manifest Lists", "Manifests" and "Sequence Number
+-- Inheritance"): the files that it puts, and those of the head.
+use Rattle.std.specs.Prelude.{◌≡◌, ◌<◌, ◌^◌, ◌++◌, ℕ, ℤ, List, map, Some, Ok, IsTrue}
+use Rattle.std.specs.List.{AllByRecursion, list_all}
+use Rattle.std.specs.Str.{IsUtf8}
+use Rattle.plain_types.specs.Bags.{SameBag}
+use Rattle.store_core.specs.Files.{Files, KeepsFiles}
+use Rattle.file_names.specs.declared.names.Names.{Names}
+use Rattle.file_names.specs.FileNames.{NoneFrom}
+use Rattle.written_paths.specs.Sessions.{HasNoSlash}
+use Rattle.manifest_writer.specs.ListDatum.{is_listed}
+use Rattle.manifest_writer.specs.Readable.{CanBeWritten}
+use Rattle.metadata_writer.specs.PartsAfter.{CanFollow, parts_after}
+use Rattle.table_metadata.specs.Metadata.{Parts, parts}
+use Rattle.table_state.specs.declared.live_set.BranchState.TheVariants as state
+use Rattle.table_state.specs.declared.live_set.LiveSet.{LiveSet}
+use Rattle.table_state.specs.Files.{schema_with, spec_with}
+use Rattle.table_state.specs.Live.{branch_at}
+use Rattle.table_load.specs.declared.state.State.{State}
+use Rattle.change_sets.specs.declared.change.ChangeSet.{ChangeSet}
+use Rattle.change_sets.specs.Laid.{as_kept, laid}
+use Rattle.commit_builder.specs.declared.drafts.Draft.{Draft}
+use Rattle.commit_builder.specs.Commits.{drafts_in, files_after, live_in, numbers_in, rows_in, schema_of, snapshot_in}
+use Rattle.commit_builder.specs.Drafts.{spec_in}
+
+-- a manifest whose entries are of a spec of the table, and hold what a manifest can hold
+pub record IsReadable (head : State) (draft : Draft) : Type 0 where
+  pub spec : spec_with draft.spec head.metadata.specs ≡ Some (spec_in head.metadata.specs draft.spec)
+  pub entries : CanBeWritten draft.entries (spec_in head.metadata.specs draft.spec) (schema_of head)
+
+-- the metadata has its current schema, the manifests and the rows can be read again, and the snapshot is a new one
+pub record CanBeLaid (head : State) (change : ChangeSet) (names : Names) (now : ℤ) : Type 0 where
+  pub schema : schema_with head.metadata.current_schema head.metadata.schemas ≡ Some (schema_of head)
+  pub manifests : AllByRecursion (IsReadable head) (drafts_in head change)
+  pub rows : IsTrue (list_all is_listed (rows_in head change names))
+  pub follows : CanFollow (snapshot_in head change names now) now (parts head.metadata)
+
+-- the names of a session of a run
+pub record AreNames (names : Names) : Type 0 where
+  pub text : IsUtf8 names.session
+  pub slash : HasNoSlash names.session
+  pub run : names.run < 2 ^ 64
+  pub room : names.next < 2 ^ 127
+
+-- what is read of the next version
+abbrev pub next_parts : State → ChangeSet → Names → ℤ → Parts
+next_parts head change names now = parts_after head.branch (snapshot_in head change names now) now (parts head.metadata)
+
+-- the branch has the snapshot, whose live files are those of the head with the change laid on them, in some order and with
+-- some status
+pub record HoldsChange (head : State) (change : ChangeSet) (names : Names) (now : ℤ) (later : Files) : Type 0 where
+  pub live : LiveSet
+  pub branch : branch_at head.table (next_parts head change names now) head.branch later ≡ Ok (state.Head (snapshot_in head change names now).id (rows_in head change names) live)
+  pub laid : SameBag (map as_kept (live.data_files ++ live.deletes)) (map as_kept ((laid (numbers_in head) (live_in head.head) change).data_files ++ (laid (numbers_in head) (live_in head.head) change).deletes))
