@@ -4,7 +4,7 @@
     python3 bench/rows.py count      instructions at 250,000 and 1,000,000 rows (valgrind, minutes)
     python3 bench/rows.py where      where the instructions go, at 10,000 rows
 
-The program has to be built before, by `rt run` in `crates/dml_program`. What is made lies in `bench/out`.
+The program has to be built before, by `rt run` in `crates/lazhuvettan`. What is made lies in `bench/out`.
 """
 
 import os
@@ -19,7 +19,7 @@ sys.path.insert(0, os.path.join(HERE, "..", "samples"))
 import measure  # noqa: E402
 import tables  # noqa: E402
 
-PROGRAM = os.path.join(HERE, "..", "crates", "dml_program", "out", "dml_program")
+PROGRAM = os.path.join(HERE, "..", "crates", "lazhuvettan", "out", "lazhuvettan")
 PLAIN = os.path.join(OUT, "plain")
 
 

@@ -1,4 +1,4 @@
-"""Makes the sample tables of `dml_program`, and the module that gives their bytes to its tests.
+"""Makes the sample tables of `lazhuvettan`, and the module that gives their bytes to `program_tests`.
 
 The tables' location is where they stand: run it as `python3 samples/make.py`.
 """
@@ -32,10 +32,11 @@ MIXED = ["metadata/v1.metadata.json", "metadata/v2.metadata.json", "metadata/sna
 
 if __name__ == "__main__":
     here = os.path.dirname(os.path.abspath(__file__))
-    program = os.path.join(here, "..", "crates", "dml_program")
+    program = os.path.join(here, "..", "crates", "lazhuvettan")
+    tests = os.path.join(here, "..", "crates", "program_tests")
     tables.plain(program, "data/plain")
     tables.mixed(program, "data/mixed")
-    with open(os.path.join(program, "src", "sample_files.rt"), "w") as out:
+    with open(os.path.join(tests, "src", "sample_files.rt"), "w") as out:
         out.write("//! The files of the tables that samples/make.py makes, which writes this module too.\n")
         out.write(constant(program, "PLAIN", "data/plain", PLAIN))
         out.write(constant(program, "MIXED", "data/mixed", MIXED))

@@ -1,7 +1,7 @@
 //! Tables that are made, and what is answered where one isn't.
 
-use crate::run::run_program;
-use crate::tests::{one_file, run};
+use crate::commands::{one_file, run};
+use dml_program::run_program;
 use std::alloc::{AllocError, Global};
 use std::test::Fail;
 use store_core::{

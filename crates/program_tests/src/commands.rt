@@ -1,5 +1,6 @@
-use crate::run::run_program;
-use crate::status::Status;
+//! Commands over a table with metadata alone, and calls that fail.
+
+use dml_program::{Status, run_program};
 use std::alloc::{AllocError, Global};
 use std::process::Abort;
 use std::test::Fail;

@@ -1,7 +1,7 @@
 //! Tables with a snapshot, each file of which is missing, cut off or out of form in turn.
 
+use crate::commands::run;
 use crate::sample_files::{MIXED, PLAIN};
-use crate::tests::run;
 use plain_types::digits::after_text;
 use std::alloc::{AllocError, Global};
 use std::test::Fail;

@@ -1,6 +1,6 @@
 use Rattle.std.proofs.Common.{◌≡◌, map, take}
 use Rattle.std.specs.Prelude.{string_bytes}
-use Rattle.dml_program.proofs.word_slices.Given as goal
+use Rattle.lazhuvettan.proofs.word_slices.Given as goal
 
 abbrev pub invariant-loop-word : goal.invariant-loop-word
 invariant-loop-word l = map (λ slice. slice.now) l.slices.items ≡ map string_bytes (take l.word-index l.words)
