@@ -1,3 +1,4 @@
+pub mod Following
 pub mod NextHead
 pub mod Standing
 pub mod Reading

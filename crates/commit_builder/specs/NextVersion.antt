@@ -1,15 +1,15 @@
 -- A commit that is read again (Iceberg specification, "Snapshots", "Manifest Lists", "Manifests" and "Sequence Number
 -- Inheritance"): the files that it puts, and those of the head.
-use Rattle.std.specs.Prelude.{◌≡◌, ◌<◌, ◌^◌, ◌++◌, ℕ, ℤ, List, map, Some, Ok, IsTrue}
+use Rattle.std.specs.Prelude.{◌≡◌, ◌<◌, ◌^◌, ◌++◌, ℕ, ℤ, int_lt, true, List, length, map, Some, Ok, IsTrue}
 use Rattle.std.specs.List.{AllByRecursion, list_all}
 use Rattle.std.specs.Str.{IsUtf8}
 use Rattle.plain_types.specs.Bags.{SameBag}
-use Rattle.store_core.specs.Files.{Files, KeepsFiles}
+use Rattle.store_core.specs.Files.{Files}
 use Rattle.file_names.specs.declared.names.Names.{Names}
-use Rattle.file_names.specs.FileNames.{NoneFrom}
 use Rattle.written_paths.specs.Sessions.{HasNoSlash}
 use Rattle.manifest_writer.specs.ListDatum.{is_listed}
 use Rattle.manifest_writer.specs.Readable.{CanBeWritten}
+use Rattle.metadata_writer.specs.Fitting.{IsInt, IsLong}
 use Rattle.metadata_writer.specs.PartsAfter.{CanFollow, parts_after}
 use Rattle.table_metadata.specs.Metadata.{Parts, parts}
 use Rattle.table_state.specs.declared.live_set.BranchState.TheVariants as state
@@ -20,8 +20,9 @@ use Rattle.table_load.specs.declared.state.State.{State}
 use Rattle.change_sets.specs.declared.change.ChangeSet.{ChangeSet}
 use Rattle.change_sets.specs.Laid.{as_kept, laid}
 use Rattle.commit_builder.specs.declared.drafts.Draft.{Draft}
-use Rattle.commit_builder.specs.Commits.{drafts_in, files_after, live_in, numbers_in, rows_in, schema_of, snapshot_in}
+use Rattle.commit_builder.specs.Commits.{drafts_in, live_in, numbers_in, parent_of, rows_in, schema_of, snapshot_in}
 use Rattle.commit_builder.specs.Drafts.{spec_in}
+use Rattle.commit_builder.specs.SnapshotIds.{ids_of, last}
 
 -- a manifest whose entries are of a spec of the table, and hold what a manifest can hold
 pub record IsReadable (head : State) (draft : Draft) : Type 0 where
@@ -52,3 +53,12 @@ pub record HoldsChange (head : State) (change : ChangeSet) (names : Names) (now 
   pub live : LiveSet
   pub branch : branch_at head.table (next_parts head change names now) head.branch later ≡ Ok (state.Head (snapshot_in head change names now).id (rows_in head change names) live)
   pub laid : SameBag (map as_kept (live.data_files ++ live.deletes)) (map as_kept ((laid (numbers_in head) (live_in head.head) change).data_files ++ (laid (numbers_in head) (live_in head.head) change).deletes))
+
+-- the numbers of the head and of the clock are in the ranges of their types, and there is a next sequence number
+pub record HasNumbers (head : State) (now : ℤ) : Type 0 where
+  pub few : length (ids_of head.metadata.snapshots (live_in head.head)) < 2 ^ 62
+  pub sequence : int_lt head.metadata.last_sequence last ≡ true
+  pub hour : IsLong now
+  pub updated : IsLong head.metadata.last_updated_ms
+  pub parent : (n : ℤ) → parent_of head.head ≡ Some n → IsLong n
+  pub schema : IsLong head.metadata.current_schema × IsInt head.metadata.current_schema

@@ -11,12 +11,14 @@ ghost use Rattle.change_sets.specs.declared.change.ChangeSet.{ChangeSet};
 ghost use Rattle.change_sets.specs.Laid.{as_kept, laid};
 ghost use Rattle.file_names.specs.declared.names.Names.{Names as Drawn};
 ghost use Rattle.file_names.specs.FileNames.{NoneFrom};
+ghost use Rattle.metadata_writer.specs.PartsAfter.{CanFollow};
+ghost use Rattle.table_metadata.specs.Metadata.{parts};
 ghost use Rattle.store_core.specs.Files.{Files, KeepsFiles};
 ghost use Rattle.table_load.specs.declared.state.State.{State as Loaded};
 ghost use Rattle.table_load.specs.States.{IsParted, IsStateOf};
-ghost use Rattle.commit_builder.specs.Commits.{AreSpelled, drafts_in, files_after};
+ghost use Rattle.commit_builder.specs.Commits.{AreSpelled, drafts_in, files_after, snapshot_in};
 ghost use Rattle.commit_builder.specs.Holding.{held_after};
-ghost use Rattle.commit_builder.specs.NextVersion.{AreNames, CanBeLaid, HoldsChange};
+ghost use Rattle.commit_builder.specs.NextVersion.{AreNames, CanBeLaid, HasNumbers, HoldsChange};
 ghost use Rattle.commit_builder.specs.SnapshotIds.{has_id, next_id};
 
 /// The manifests of a commit, those that are written and those that stand, hold live the files of the head with the change
@@ -38,4 +40,10 @@ pub fn a_prepared_version_holds_the_change()
     ensures { (head : Loaded) (change : ChangeSet) (names : Drawn) (now : ℤ) (version : ℕ) (old files later : Files) → IsStateOf head.table version head.branch old head → KeepsFiles (Some old) (Some files)
         → NoneFrom head.table names.run names.session names.next files → AreNames names → length (drafts_in head change) < 2 ^ 100 → AreSpelled head change names → CanBeLaid head change names now
         → KeepsFiles (Some (files_after head change names files)) (Some later) → HoldsChange head change names now later }
+{}
+
+/// The snapshot of a commit can follow those of its head, where the numbers are in the ranges of their types and there are
+/// fewer than 2^62 ids.
+pub fn a_commit_can_follow()
+    ensures { (head : Loaded) (change : ChangeSet) (names : Drawn) (now : ℤ) → HasNumbers head now → CanFollow (snapshot_in head change names now) now (parts head.metadata) }
 {}
