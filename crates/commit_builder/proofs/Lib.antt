@@ -3,7 +3,6 @@ pub mod NextHead
 pub mod Standing
 pub mod Reading
 pub mod Every
-pub mod Folders
 pub mod Held
 pub mod Manifests
 pub mod NewIds

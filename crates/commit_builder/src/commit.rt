@@ -14,7 +14,7 @@ ghost use Rattle.commit_builder.specs.SnapshotIds.{last};
 ghost use Rattle.commit_builder.specs.Sorting.{seen_sorted, sorted_of};
 ghost use Rattle.table_load.specs.States.{manifests_of};
 
-use crate::head::{folder_of, live_in, manifests_of, no_files, numbers_of, parent_of};
+use crate::head::{live_in, manifests_of, no_files, numbers_of, parent_of};
 use crate::sorting::{Commit, Sorted};
 use crate::writing::{put_manifests, put_next};
 use change_sets::{AddedAs, ChangeSet, Plan};
@@ -30,7 +30,7 @@ use store_core::{Blob, Store};
 use table_load::State;
 use table_metadata::Snapshot;
 use table_names::version_name;
-use table_state::{LiveSet, LoadFault, schema_with};
+use table_state::{LiveSet, LoadFault, folder_of, schema_with};
 
 /// The metadata of the next version, which isn't in the store yet.
 #[derive(Debug, Drop)]

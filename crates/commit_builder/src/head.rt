@@ -3,7 +3,6 @@ ghost use Rattle.std.specs.Prelude.{◌≡◌, true, int_lt, IfOk, []};
 ghost use Rattle.commit_builder.specs.Commits.{live_in, numbers_of, parent_of};
 ghost use Rattle.commit_builder.specs.SnapshotIds.{last};
 ghost use Rattle.table_load.specs.States.{manifests_of};
-ghost use Rattle.table_state.specs.Paths.{folder_of};
 
 use crate::snapshot_ids::next_snapshot_id;
 use change_sets::AddedAs;
@@ -52,16 +51,6 @@ pub(crate) fn live_in<'a>(head: &'a BranchState, none: &'a LiveSet) -> &'a LiveS
     match head {
         BranchState::Head { live, .. } => live,
         BranchState::Absent | BranchState::Empty => none,
-    }
-}
-
-/// The location without one slash at its end.
-pub(crate) fn folder_of(location: &str) -> &str
-    ensures { result.now ≡ folder_of location.now }
-{
-    match location.strip_suffix("/") {
-        Some(folder) => folder,
-        None => location,
     }
 }
 

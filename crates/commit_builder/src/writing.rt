@@ -12,7 +12,6 @@ ghost use Rattle.commit_builder.specs.Drafts.{spec_in};
 ghost use Rattle.commit_builder.specs.Puts.{LeavesOthers};
 
 use crate::drafts::{Draft, unpartitioned};
-use crate::head::folder_of;
 use file_names::Names;
 use manifest_files::ManifestRow;
 use manifest_rows::{CommitNumbers, row_of};
@@ -22,7 +21,7 @@ use row_values::{Spec, TableSchema};
 use std::alloc::{AllocError, Global};
 use store_core::Store;
 use table_load::State;
-use table_state::{LoadFault, spec_with};
+use table_state::{LoadFault, folder_of, spec_with};
 
 /// Puts bytes under the next name of a manifest or a list.
 pub(crate) fn put_next<S: Store>(

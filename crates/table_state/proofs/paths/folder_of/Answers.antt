@@ -1,5 +1,5 @@
-use Rattle.commit_builder.proofs.Folders.{stands}
-use Rattle.commit_builder.proofs.head.folder_of.Goals as goal
+use Rattle.table_state.proofs.Folders.{stands}
+use Rattle.table_state.proofs.paths.folder_of.Goals as goal
 
 -- src/head.rt:59:1
 pub returns-in-None : goal.returns-in-None
