@@ -2,6 +2,7 @@
 use Rattle.std.specs.Prelude.{ℕ, ◌==◌, if◌then◌else◌, codes, List, [], ◌∷◌, ◌++◌}
 use Rattle.std.specs.Fmt.{decimal}
 use Rattle.std.specs.List.{flat_map}
+use Rattle.report_lines.specs.Escapes.{escaped}
 use Rattle.store_core.specs.declared.store.StoreFault.{StoreFault}
 use Rattle.store_core.specs.declared.store.StoreFault.TheVariants.{Failed, Memory as StoreMemory}
 use Rattle.dml_program.specs.declared.status.TableKind.{TableKind}
@@ -26,13 +27,9 @@ abbrev pub status_of_fault : StoreFault → Status
 status_of_fault Failed = StoreFailed
 status_of_fault StoreMemory = Memory
 
--- a line feed inside a line is written as the two characters `\n`
-abbrev pub escaped_byte : ℕ → List ℕ
-escaped_byte b = if b == 10 then 92 ∷ 110 ∷ [] else b ∷ []
-
 -- a line of the report
 abbrev pub line : List ℕ → List ℕ
-line text = flat_map escaped_byte text ++ 10 ∷ []
+line text = escaped text ++ 10 ∷ []
 
 -- a row's line, which has its record
 abbrev pub row_line : List ℕ → List ℕ

@@ -1,9 +1,10 @@
 // The lines of the report.
 ghost use Rattle.std.specs.Prelude.{◌≡◌, ◌++◌, IfOk, OnOk};
-ghost use Rattle.dml_program.specs.Statuses.{created_lines, escaped_byte, fault_lines, kind_text, line, row_line, row_lines, script_text};
+ghost use Rattle.dml_program.specs.Statuses.{created_lines, fault_lines, kind_text, line, row_line, row_lines, script_text};
 
 use crate::status::{ScriptKind, Status, TableKind};
 use plain_types::Bytes;
+use report_lines::push_escaped;
 use std::alloc::{AllocError, Global};
 
 /// What a status writes of itself.
@@ -112,20 +113,7 @@ fn line(alloc: Global, text: &str) -> Result<Vec<u8>, AllocError>
 fn push_line(lines: &mut Vec<u8>, text: &[u8]) -> Result<(), AllocError>
     ensures { OnOk result (lines.new.items ≡ lines.old.items ++ line text.now) }
 {
-    for byte in text {
-        push_escaped(lines, *byte)?;
-    }
+    push_escaped(lines, text)?;
     lines.push(b'\n')?;
     Ok(())
-}
-
-fn push_escaped(bytes: &mut Vec<u8>, byte: u8) -> Result<(), AllocError>
-    ensures { OnOk result (bytes.new.items ≡ bytes.old.items ++ escaped_byte byte) }
-{
-    if byte == b'\n' {
-        bytes.extend_from_slice(b"\\n")
-    } else {
-        bytes.push(byte)?;
-        Ok(())
-    }
 }
