@@ -1,3 +1,4 @@
+pub mod Apart
 pub mod ColumnNames
 pub mod ContainerAgain
 pub mod RowFits

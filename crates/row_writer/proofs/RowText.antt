@@ -3,8 +3,6 @@ use Rattle.std.proofs.Common.{◌≡◌, ℕ, suc, ◌+◌, ◌*◌, ◌<◌, �
 use Rattle.std.specs.Prelude.{codes}
 use Rattle.std.specs.List.{list_all}
 use Rattle.std.specs.Ordering.{int_eq}
-use Rattle.std.proofs.lemmas.Bool.Decides.{nat_tests}
-use Rattle.std.proofs.lemmas.Int.{ints}
 use Rattle.row_values.specs.declared.kind.Kind.{Kind}
 use Rattle.row_values.specs.declared.kind.Kind.TheVariants as kind
 use Rattle.row_values.specs.declared.schema.Column.{Column}
@@ -27,6 +25,7 @@ use Rattle.kind_writer.proofs.KindText.{kind_plain, kind_takes_bytes, kind_items
 use Rattle.row_writer.specs.RowTypes.{has_name, are_names, column_name, decimal_name, row_type}
 use Rattle.row_writer.specs.Readable.{has_id, are_apart, AreColumns}
 use Rattle.row_writer.proofs.ColumnNames.{names_differ}
+use Rattle.row_writer.proofs.Apart.{no_column_here, turned}
 use Rattle.row_writer.proofs.RowPlans.{if_required, column_plan, column_plans, row_plan, row_type_is, row_shape_is}
 
 abbrev are_ids : List Column → Bool
@@ -87,13 +86,6 @@ named_by false name k begun h = ap (option_and_then (each_once [])) (kind_named 
 -- the columns whose decimals' names didn't stand yet
 abbrev are_free : Names → List Column → Bool
 are_free begun columns = list_all (λ column. not (has_begun (decimal_name column.id) begun)) columns
-
-no_column_here : (b others : Bool) → not (b || others) ≡ true → (b ≡ false) × (not others ≡ true)
-no_column_here true others h = absurd cc
-no_column_here false others h = (refl, h)
-
-turned : (a b : ℤ) → int_eq a b ≡ false → int_eq b a ≡ false
-turned a b h = grind (arith, ints, nat_tests)
 
 free_more : (begun : Names) (id : ℤ) (columns : List Column) → is_id (Some id) ≡ true → are_ids columns ≡ true → not (has_id id columns) ≡ true → are_free begun columns ≡ true → are_free (begun ++ decimal_name id ∷ []) columns ≡ true
 unfolding has_begun

@@ -21,6 +21,7 @@ use Rattle.kind_writer.proofs.KindPlans.{kind_plan}
 use Rattle.kind_writer.proofs.KindLaws.{kind_carried, optional_carried}
 use Rattle.row_writer.specs.RowTypes.{column_name, decimal_name}
 use Rattle.row_writer.specs.Readable.{has_id, are_apart}
+use Rattle.row_writer.proofs.Apart.{no_column_here, turned}
 use Rattle.row_writer.proofs.RowPlans.{if_required, column_plan, column_plans}
 
 pub goes : {A B E : Type 0} (r : Result A E) (f : A → Result B E) (a : A) (out : Result B E) → r ≡ Ok a → f a ≡ out → (r >>= f) ≡ out
@@ -53,9 +54,6 @@ column_carried keeps column n = ap (λ (b : Bool). cond b (here_at column n) (Er
 same_id : (n : ℤ) → int_eq n n ≡ true
 same_id n = grind (arith, ints, nat_tests)
 
-turned : (a b : ℤ) → int_eq a b ≡ false → int_eq b a ≡ false
-turned a b h = grind (arith, ints, nat_tests)
-
 -- none of these columns has the id
 abbrev lack : ℤ → List Column → Bool
 lack id columns = list_all (λ other. not (int_eq other.id id)) columns
@@ -80,10 +78,6 @@ apart_from front columns = list_all (λ column. lack column.id front) columns
 lack_more : (id : ℤ) (front : List Column) (column : Column) → lack id front ≡ true → int_eq column.id id ≡ false → lack id (front ++ column ∷ []) ≡ true
 lack_more id [] column h e = ap (λ (b : Bool). not b && true) e
 lack_more id (other ∷ front) column h e = ap (λ (b : Bool). b && lack id (front ++ column ∷ [])) (first (not (int_eq other.id id)) (lack id front) h) ∙ lack_more id front column (second (not (int_eq other.id id)) (lack id front) h) e
-
-no_column_here : (b others : Bool) → not (b || others) ≡ true → (b ≡ false) × (not others ≡ true)
-no_column_here true others h = absurd cc
-no_column_here false others h = (refl, h)
 
 apart_more : (front : List Column) (column : Column) (columns : List Column) → apart_from front columns ≡ true → not (has_id column.id columns) ≡ true → apart_from (front ++ column ∷ []) columns ≡ true
 apart_more front column [] h new = refl
