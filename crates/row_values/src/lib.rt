@@ -14,6 +14,3 @@ pub use plain_types::{Bytes, List, Text};
 pub use row::copy_row;
 pub use schema::{Column, TableSchema};
 pub use value::{Row, Value};
-
-#[cfg(test)]
-mod tests;

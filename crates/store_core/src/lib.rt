@@ -23,6 +23,3 @@ pub use memory_store::{CallKind, FailAt, File, Leave, MemoryStore};
 pub use plain_types::{Bytes as Blob, List, Text as Name};
 pub use sink::{Sink, SinkFault, write_all};
 pub use store::{ReadAnswer, Store, StoreFault, SwapAnswer};
-
-#[cfg(test)]
-mod tests;

@@ -5,8 +5,6 @@
 mod file_inputs;
 mod folder;
 mod folder_store;
-#[cfg(test)]
-mod tests;
 
 pub use file_inputs::FileInputs;
 pub use folder_store::FolderStore;

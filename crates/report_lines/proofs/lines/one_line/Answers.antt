@@ -1,5 +1,4 @@
-use Rattle.std.proofs.Common.{◌≡◌, ◌∙◌}
-use Rattle.std.specs.Prelude.{string_bytes}
+use Rattle.std.proofs.Common.{◌∙◌}
 use Rattle.report_lines.proofs.Escaping.{replaced}
 use Rattle.report_lines.proofs.lines.one_line.Goals as goal
 

@@ -1,11 +1,11 @@
 //! Each call of the folder store and of inputs once on a real folder, below the one for temporary files.
 
-use crate::{FileInputs, FolderStore};
 use std::alloc::{AllocError, Global};
 use std::rt::{Env, Files};
 use std::test::Fail;
 use std::{env, fs, io, process};
 use store_core::{InputAnswer, Inputs, Name, ReadAnswer, Store, SwapAnswer};
+use store_files::{FileInputs, FolderStore};
 
 /// A folder that no other run of the tests uses, with its final slash.
 fn fresh<R: Files + Env + AllocGlobal>(rt: &R, of: &str, run: u32) -> io::Result<String> {
@@ -101,25 +101,43 @@ fn are_names(names: &[Name], wanted: &[&str]) -> bool {
     rest.is_empty()
 }
 
+// Whether a file below the folder is put, read and listed.
+fn keeps_a_file<R: Files + AllocGlobal + Clone + Drop>(
+    alloc: Global,
+    store: &mut FolderStore<R>,
+    folder: &str,
+) -> Result<bool, AllocError> {
+    let name = name_in(alloc, folder, "new/a")?;
+    let prefix = name_in(alloc, folder, "new/")?;
+    let put = puts(alloc, store, name.as_str(), b"first");
+    let read = reads(alloc, store, name.as_str(), Some(b"first"));
+    let listed = lists(alloc, store, prefix.as_str(), &[name.as_str()]);
+    Ok(put && read && listed)
+}
+
+// Whether that file is an input of five bytes.
+fn gives_five<R: Files + AllocGlobal>(
+    alloc: Global,
+    inputs: &mut FileInputs<R>,
+    folder: &str,
+) -> Result<bool, AllocError> {
+    let name = name_in(alloc, folder, "new/a")?;
+    let given = gives(alloc, inputs, name.as_str(), 5, Some(b"first"));
+    let too_long = gives(alloc, inputs, name.as_str(), 4, None);
+    Ok(given && too_long)
+}
+
 #[test]
 fn a_file_that_was_put_is_read_and_listed(rt: HostRuntime) -> Result<(), Fail> {
     let alloc = rt.alloc();
     let folder = fresh(&rt, "put", process::id(rt.process()))?;
     let mut store = FolderStore::new(rt.clone()?);
-    let name = name_in(alloc, folder.as_str(), "new/a")?;
-    let put = puts(alloc, &mut store, name.as_str(), b"first");
-    let read = reads(alloc, &mut store, name.as_str(), Some(b"first"));
-    let prefix = name_in(alloc, folder.as_str(), "new/")?;
-    let listed = lists(alloc, &mut store, prefix.as_str(), &[name.as_str()]);
+    let kept = keeps_a_file(alloc, &mut store, folder.as_str())?;
     let mut inputs = FileInputs::new(rt.clone()?);
-    let given = gives(alloc, &mut inputs, name.as_str(), 5, Some(b"first"));
-    let too_long = gives(alloc, &mut inputs, name.as_str(), 4, None);
+    let given = gives_five(alloc, &mut inputs, folder.as_str())?;
     fs::remove_dir_all(&rt, folder.as_str())?;
-    assert!(rt; put);
-    assert!(rt; read);
-    assert!(rt; listed);
+    assert!(rt; kept);
     assert!(rt; given);
-    assert!(rt; too_long);
     Ok(())
 }
 

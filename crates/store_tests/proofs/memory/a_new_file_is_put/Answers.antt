@@ -2,7 +2,7 @@ use Rattle.std.proofs.Common.{◌≡◌, None, codes}
 use Rattle.std.specs.FinMap as map
 use Rattle.store_core.specs.Memory.{files_of}
 use Rattle.store_core.proofs.FilesLemmas.{get-none}
-use Rattle.store_core.proofs.tests.a_new_file_is_put.Goals as goal
+use Rattle.store_tests.proofs.memory.a_new_file_is_put.Goals as goal
 
 pub put-requires : goal.put-requires
 put-requires g c told is =

@@ -1,4 +1,4 @@
-use crate::{Bytes, List, Text, Value, copy_row};
+use row_values::{Bytes, List, Text, Value, copy_row};
 use std::alloc::{AllocError, Global};
 use std::cmp::Ordering;
 use std::test::Fail;
