@@ -1,3 +1,4 @@
+pub mod Laying
 pub mod Following
 pub mod NextHead
 pub mod Standing

@@ -1,5 +1,5 @@
 -- The branch of the next version: its snapshot, the list of it, and what the manifests of the list hold live.
-use Rattle.std.proofs.Common.{◌≡◌, ◌<◌, ◌≤◌, ◌+◌, ◌^◌, ℕ, ℤ, Bool, true, false, not, ◌&&◌, ◌||◌, List, [], ◌∷◌, ◌++◌, map, filter, length, Option, Some, None, Result, Ok, refl, sym, ap, subst, ◌∙◌, arith, true≢false}
+use Rattle.std.proofs.Common.{◌≡◌, ◌<◌, ◌≤◌, ◌+◌, ◌^◌, ℕ, ℤ, Bool, true, false, not, ◌&&◌, ◌||◌, cond, List, [], ◌∷◌, ◌++◌, map, filter, length, Option, Some, None, Result, Ok, refl, sym, ap, subst, ◌∙◌, arith, true≢false}
 use Rattle.std.specs.Prelude.{if◌then◌else◌, nat_eq}
 use Rattle.std.specs.declared.cmp.Ordering.{Ordering}
 use Rattle.std.specs.declared.cmp.Ordering.TheVariants.{Less, Equal, Greater}
@@ -54,7 +54,7 @@ use Rattle.commit_builder.specs.Sorting.{added_drafts, sorted_from, sorted_of}
 use Rattle.commit_builder.proofs.Every.{all_numbered}
 use Rattle.commit_builder.proofs.Held.{holds}
 use Rattle.commit_builder.proofs.Reading.{Stand, all_read, all_stand, file_is, keeps_from, none_from, row_list, rows_listed, there}
-use Rattle.commit_builder.proofs.Standing.{Again, Known, all_again, head_known, kept_rows, live_joined, split, standing_is}
+use Rattle.commit_builder.proofs.Standing.{Again, Known, all_again, head_known, kept_rows, live_joined, split, standing_in}
 
 -- ---- the ref
 
@@ -118,6 +118,14 @@ module _ (table branch : List ℕ) (p : Parts) (later : Files) (s : Snapshot) wh
 
 -- ---- the whole
 
+one_true : (p : Entry → Bool) (x : Entry) (xs : List Entry) (b : Bool) → p x ≡ b → list_all p xs ≡ true → list_all p (cond b (x ∷ xs) xs) ≡ true
+one_true p x xs true is h = ap (λ t. t && list_all p xs) is ∙ h
+one_true p x xs false is h = h
+
+filter_true : (p : Entry → Bool) (xs : List Entry) → list_all p (filter p xs) ≡ true
+filter_true p [] = refl
+filter_true p (x ∷ xs) = one_true p x (filter p xs) (p x) refl (filter_true p xs)
+
 parted_by : (table branch : List ℕ) (version : ℕ) (files : Files) (loaded : State) → IsStateOf table version branch files loaded → (head : BranchState) → loaded.head ≡ head → IsParted (manifests_of head) loaded.held (live_in head).data_files (live_in head).deletes
 unfolding IsParted
 parted_by table branch version files loaded is state.Absent h = (refl, refl)
@@ -175,14 +183,10 @@ module _ (head : State) (change : ChangeSet) (names : Names) (now : ℤ) (versio
   abbrev kept_manifests : List ManifestRow
   kept_manifests = kept_rows change.removed (manifests_of head.head) head.held (live_in head.head).data_files (live_in head.head).deletes
 
-  standing : (sorted_in head change).standing ≡ kept_manifests
-  unfolding sorted_of
-  standing = standing_is head.metadata.specs (schema_of head) change.removed (numbers_in head).snapshot (record { drafts = added_drafts head.metadata.specs (schema_of head) (numbers_in head) change; standing = [] }) (manifests_of head.head) head.held (live_in head.head).data_files (live_in head.head).deletes
-
   rows_are : rows_in head change names ≡ own_rows ++ kept_manifests
   rows_are =
       ap (λ (rows : List ManifestRow). rows ++ (sorted_in head change).standing) (rows_listed head numbers p later refl refl laid_on.schema names.run names.session proper.text proper.slash proper.run names.next [] drafts)
-      ∙ ap (λ (rows : List ManifestRow). own_rows ++ rows) standing
+      ∙ ap (λ (rows : List ManifestRow). own_rows ++ rows) (standing_in head change)
 
   known : Known head.table (parts head.metadata) old (manifests_of head.head) head.held (live_in head.head).data_files (live_in head.head).deletes
   known = head_known head.table head.branch version old head is
@@ -242,5 +246,7 @@ module _ (head : State) (change : ChangeSet) (names : Names) (now : ℤ) (versio
     branch = branch_is head.table head.branch p later (snapshot_in head change names now) (rows_in head change names) all
         (ref_is head.branch (snapshot_in head change names now).id head.metadata.refs)
         (snapshot_is (snapshot_in head change names now) head.metadata.snapshots laid_on.follows.new) listed (read_by nothing_weighs);
+    of_data = filter_true is_data (filter is_live all);
+    of_deletes = filter_true (λ entry. not (is_data entry)) (filter is_live all);
     laid = held_weighed;
   }

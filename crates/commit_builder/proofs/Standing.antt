@@ -28,10 +28,11 @@ use Rattle.table_state.specs.declared.load_fault.LoadFault.TheVariants as fault
 use Rattle.table_state.specs.Files.{bytes_under, entries_in, file_at, manifest_at}
 use Rattle.table_state.specs.Live.{branch_at, entries_at, is_data, is_live, set_of}
 use Rattle.table_state.specs.Paths.{name_of}
-use Rattle.commit_builder.specs.Commits.{live_in}
+use Rattle.change_sets.specs.declared.change.ChangeSet.{ChangeSet}
+use Rattle.commit_builder.specs.Commits.{live_in, numbers_in, schema_of, sorted_in}
 use Rattle.commit_builder.specs.Holding.{standing_files}
 use Rattle.commit_builder.specs.Drafts.{Drafts, begun, finished}
-use Rattle.commit_builder.specs.Sorting.{Sorted, and_manifest, and_rewritten, has_removed, is_empty, sorted_from}
+use Rattle.commit_builder.specs.Sorting.{Sorted, added_drafts, and_manifest, and_rewritten, has_removed, is_empty, sorted_from, sorted_of}
 
 -- ---- what each manifest of the head holds
 
@@ -138,6 +139,11 @@ module _ (specs : List Spec) (schema : TableSchema) (removed : List Entry) (snap
       standing_is (and_manifest specs schema removed snapshot s row own own_deletes) rows counts (drop count.data_files data_files) (drop count.deletes deletes)
       ∙ ap (λ (rs : List ManifestRow). rs ++ rest) (one_stands (has_removed removed own) (is_empty own && is_empty own_deletes) s row (finished (and_rewritten specs schema [] snapshot (and_rewritten specs schema removed snapshot (begun row.partition_spec_id row.content s.drafts) own) own_deletes)))
       ∙ append_assoc s.standing row_own rest
+
+-- those of the head's that stand in a commit's list
+pub standing_in : (head : State) (change : ChangeSet) → (sorted_in head change).standing ≡ kept_rows change.removed (manifests_of head.head) head.held (live_in head.head).data_files (live_in head.head).deletes
+unfolding sorted_of
+standing_in head change = standing_is head.metadata.specs (schema_of head) change.removed (numbers_in head).snapshot (record { drafts = added_drafts head.metadata.specs (schema_of head) (numbers_in head) change; standing = [] }) (manifests_of head.head) head.held (live_in head.head).data_files (live_in head.head).deletes
 
 -- ---- what they hold
 

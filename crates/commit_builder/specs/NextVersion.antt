@@ -1,21 +1,24 @@
 -- A commit that is read again (Iceberg specification, "Snapshots", "Manifest Lists", "Manifests" and "Sequence Number
 -- Inheritance"): the files that it puts, and those of the head.
-use Rattle.std.specs.Prelude.{◌≡◌, ◌<◌, ◌^◌, ◌++◌, ℕ, ℤ, int_lt, true, List, length, map, Some, Ok, IsTrue}
+use Rattle.std.specs.Prelude.{◌≡◌, ◌<◌, ◌^◌, ◌++◌, ℕ, ℤ, int_lt, true, not, List, length, map, Some, Ok, IsTrue}
 use Rattle.std.specs.List.{AllByRecursion, list_all}
 use Rattle.std.specs.Str.{IsUtf8}
 use Rattle.plain_types.specs.Bags.{SameBag}
+use Rattle.row_values.specs.declared.partition.Spec.{Spec}
+use Rattle.column_bounds.specs.Bounds.{is_kind}
 use Rattle.store_core.specs.Files.{Files}
 use Rattle.file_names.specs.declared.names.Names.{Names}
 use Rattle.written_paths.specs.Sessions.{HasNoSlash}
+use Rattle.manifest_files.specs.declared.entry.Entry.{Entry}
 use Rattle.manifest_writer.specs.ListDatum.{is_listed}
-use Rattle.manifest_writer.specs.Readable.{CanBeWritten}
+use Rattle.manifest_writer.specs.Readable.{CanBeWritten, IsWritableSpec, is_written}
 use Rattle.metadata_writer.specs.Fitting.{IsInt, IsLong}
 use Rattle.metadata_writer.specs.PartsAfter.{CanFollow, parts_after}
 use Rattle.table_metadata.specs.Metadata.{Parts, parts}
 use Rattle.table_state.specs.declared.live_set.BranchState.TheVariants as state
 use Rattle.table_state.specs.declared.live_set.LiveSet.{LiveSet}
 use Rattle.table_state.specs.Files.{schema_with, spec_with}
-use Rattle.table_state.specs.Live.{branch_at}
+use Rattle.table_state.specs.Live.{branch_at, is_data}
 use Rattle.table_load.specs.declared.state.State.{State}
 use Rattle.change_sets.specs.declared.change.ChangeSet.{ChangeSet}
 use Rattle.change_sets.specs.Laid.{as_kept, laid}
@@ -52,6 +55,8 @@ next_parts head change names now = parts_after head.branch (snapshot_in head cha
 pub record HoldsChange (head : State) (change : ChangeSet) (names : Names) (now : ℤ) (later : Files) : Type 0 where
   pub live : LiveSet
   pub branch : branch_at head.table (next_parts head change names now) head.branch later ≡ Ok (state.Head (snapshot_in head change names now).id (rows_in head change names) live)
+  pub of_data : IsTrue (list_all is_data live.data_files)
+  pub of_deletes : IsTrue (list_all (λ entry. not (is_data entry)) live.deletes)
   pub laid : SameBag (map as_kept (live.data_files ++ live.deletes)) (map as_kept ((laid (numbers_in head) (live_in head.head) change).data_files ++ (laid (numbers_in head) (live_in head.head) change).deletes))
 
 -- the numbers of the head and of the clock are in the ranges of their types, and there is a next sequence number
@@ -62,3 +67,14 @@ pub record HasNumbers (head : State) (now : ℤ) : Type 0 where
   pub updated : IsLong head.metadata.last_updated_ms
   pub parent : (n : ℤ) → parent_of head.head ≡ Some n → IsLong n
   pub schema : IsLong head.metadata.current_schema × IsInt head.metadata.current_schema
+
+-- a table whose manifests can be written anew: it has its current schema, and its specs can be written
+pub record CanBeRewritten (head : State) : Type 0 where
+  pub schema : schema_with head.metadata.current_schema head.metadata.schemas ≡ Some (schema_of head)
+  pub kinds : IsTrue (list_all (λ column. is_kind column.kind) (schema_of head).columns)
+  pub specs : (id : ℤ) (spec : Spec) → spec_with id head.metadata.specs ≡ Some spec → IsWritableSpec spec (schema_of head)
+
+-- a file that can be added: its entry is of a spec of the table, and a manifest can hold it
+pub record CanBeAdded (head : State) (entry : Entry) : Type 0 where
+  pub spec : spec_with entry.spec head.metadata.specs ≡ Some (spec_in head.metadata.specs entry.spec)
+  pub held : IsTrue (is_written (spec_in head.metadata.specs entry.spec) (schema_of head) entry)

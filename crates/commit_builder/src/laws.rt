@@ -1,5 +1,6 @@
 //! What holds of all commits. Each law is the contract of a function that does nothing.
 ghost use Rattle.std.specs.Prelude.{◌≡◌, ◌++◌, ◌<◌, ◌^◌, ℕ, ℤ, false, List as Seq, length, map, Some};
+ghost use Rattle.std.specs.List.{AllByRecursion};
 ghost use Rattle.plain_types.specs.Bags.{SameBag};
 ghost use Rattle.row_values.specs.declared.partition.Spec.{Spec};
 ghost use Rattle.row_values.specs.declared.schema.TableSchema.{TableSchema};
@@ -18,7 +19,7 @@ ghost use Rattle.table_load.specs.declared.state.State.{State as Loaded};
 ghost use Rattle.table_load.specs.States.{IsParted, IsStateOf};
 ghost use Rattle.commit_builder.specs.Commits.{AreSpelled, drafts_in, files_after, snapshot_in};
 ghost use Rattle.commit_builder.specs.Holding.{held_after};
-ghost use Rattle.commit_builder.specs.NextVersion.{AreNames, CanBeLaid, HasNumbers, HoldsChange};
+ghost use Rattle.commit_builder.specs.NextVersion.{AreNames, CanBeAdded, CanBeLaid, CanBeRewritten, HasNumbers, HoldsChange};
 ghost use Rattle.commit_builder.specs.SnapshotIds.{has_id, next_id};
 
 /// The manifests of a commit, those that are written and those that stand, hold live the files of the head with the change
@@ -46,4 +47,11 @@ pub fn a_prepared_version_holds_the_change()
 /// fewer than 2^62 ids.
 pub fn a_commit_can_follow()
     ensures { (head : Loaded) (change : ChangeSet) (names : Drawn) (now : ℤ) → HasNumbers head now → CanFollow (snapshot_in head change names now) now (parts head.metadata) }
+{}
+
+/// A change can be laid on a head that was read, where the table has its schema and specs that can be written, and each added
+/// entry is of one of them and can be written too: what is read of the head's manifests can be written again.
+pub fn a_change_can_be_laid()
+    ensures { (head : Loaded) (change : ChangeSet) (names : Drawn) (now : ℤ) (version : ℕ) (old : Files) → IsStateOf head.table version head.branch old head → HasNumbers head now → CanBeRewritten head
+        → AllByRecursion (CanBeAdded head) change.added_data → AllByRecursion (CanBeAdded head) change.added_deletes → CanBeLaid head change names now }
 {}

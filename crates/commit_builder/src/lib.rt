@@ -12,6 +12,6 @@ mod writing;
 
 pub use commit::{Prepared, prepare};
 pub use laws::{
-    a_commit_can_follow, a_commit_holds_the_change, a_prepared_version_holds_the_change,
-    the_next_id_is_new,
+    a_change_can_be_laid, a_commit_can_follow, a_commit_holds_the_change,
+    a_prepared_version_holds_the_change, the_next_id_is_new,
 };

@@ -91,6 +91,26 @@ module _ (table : List ℕ) (p : Parts) (files : Files) where
       in_snapshot found.0 id rows live found.2
   in_branch branch None id rows live e = no_head (pointwise nat_eq branch (codes "main")) id rows live e
 
+  listed_in : (snapshot : Snapshot) (id : ℤ) (rows : List ManifestRow) (live : LiveSet) → snapshot_at table p snapshot files ≡ Ok (state.Head id rows live) → (path : List ℕ) × (list_at table p path files ≡ Ok rows)
+  unfolding snapshot_at
+  listed_in snapshot id rows live e =
+      let listed = two_steps (list_at table p snapshot.list files) (λ found. entries_at table p [] found files >>= λ all. Ok (state.Head snapshot.id found (set_of all))) (state.Head id rows live) e in
+      let read = two_steps (entries_at table p [] listed.0 files) (λ all. Ok (state.Head snapshot.id listed.0 (set_of all))) (state.Head id rows live) listed.2 in
+      let same : listed.0 ≡ rows = cc in
+      (snapshot.list, subst (λ found. list_at table p snapshot.list files ≡ Ok found) same listed.1)
+
+  listed_of : (branch : List ℕ) (found : Option ℤ) (id : ℤ) (rows : List ManifestRow) (live : LiveSet) → by_option found (λ ref. head_at table p branch ref files) (Ok (without_head branch)) ≡ Ok (state.Head id rows live) → (path : List ℕ) × (list_at table p path files ≡ Ok rows)
+  unfolding head_at
+  listed_of branch (Some ref) id rows live e =
+      let found = two_steps (or_fault (fault.Metadata (metadata.Ref branch)) (snapshot_with ref p.snapshots)) (λ snapshot. snapshot_at table p snapshot files) (state.Head id rows live) e in
+      listed_in found.0 id rows live found.2
+  listed_of branch None id rows live e = no_head (pointwise nat_eq branch (codes "main")) id rows live e
+
+  -- the rows of a head are those of a list
+  pub found_list : (branch : List ℕ) (id : ℤ) (rows : List ManifestRow) (live : LiveSet) → branch_at table p branch files ≡ Ok (state.Head id rows live) → (path : List ℕ) × (list_at table p path files ≡ Ok rows)
+  unfolding branch_at
+  found_list branch id rows live e = listed_of branch (head_of branch p.refs) id rows live e
+
   pub found_head : (branch : List ℕ) (id : ℤ) (rows : List ManifestRow) (live : LiveSet) → branch_at table p branch files ≡ Ok (state.Head id rows live) → (all : List Entry) × (entries_at table p [] rows files ≡ Ok all) × (set_of all ≡ live)
   unfolding branch_at
   found_head branch id rows live e = in_branch branch (head_of branch p.refs) id rows live e

@@ -1,0 +1,4 @@
+pub mod ContainerFits
+pub mod EntriesAgain
+pub mod Fitting
+pub mod RowsAgain
