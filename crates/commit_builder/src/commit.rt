@@ -73,6 +73,7 @@ fn put_list<S: Store>(
     ensures free { ForSome (S.files store.new) (NoneFrom head.now.table names.new.run names.new.session names.new.next) }
     ensures others { LeavesOthers head.now.table names.old (S.files store.old) (S.files store.new) }
     ensures kept { KeepsFiles (S.files store.old) (S.files store.new) }
+    ensures reads { S.reads store.new ≡ S.reads store.old }
     ensures kind { IfErr result (λ f. (f ≡ LoadFault.Store) ⊎ (f ≡ LoadFault.Memory)) }
     ensures unsettled { IsErrOf result LoadFault.Store → 0 < S.unsettled store.new }
     ensures cause { HasCause LoadFault.Store LoadFault.Memory (S.faults store.old) (S.faults store.new) result }
@@ -130,6 +131,7 @@ fn put_rows<S: Store>(
     ensures free { ForSome (S.files store.new) (NoneFrom head.now.table names.new.run names.new.session names.new.next) }
     ensures others { LeavesOthers head.now.table names.old (S.files store.old) (S.files store.new) }
     ensures kept { KeepsFiles (S.files store.old) (S.files store.new) }
+    ensures reads { S.reads store.new ≡ S.reads store.old }
     ensures kind { IfErr result (λ f. (f ≡ LoadFault.Store) ⊎ (f ≡ LoadFault.Memory)) }
     ensures unsettled { IsErrOf result LoadFault.Store → 0 < S.unsettled store.new }
     ensures cause { HasCause LoadFault.Store LoadFault.Memory (S.faults store.old) (S.faults store.new) result }
@@ -171,6 +173,7 @@ fn put_files<S: Store>(
     ensures free { ForSome (S.files store.new) (NoneFrom head.now.table names.new.run names.new.session names.new.next) }
     ensures others { LeavesOthers head.now.table names.old (S.files store.old) (S.files store.new) }
     ensures kept { KeepsFiles (S.files store.old) (S.files store.new) }
+    ensures reads { S.reads store.new ≡ S.reads store.old }
     ensures kind { IfErr result (λ f. (f ≡ LoadFault.Store) ⊎ (f ≡ LoadFault.Memory)) }
     ensures unsettled { IsErrOf result LoadFault.Store → 0 < S.unsettled store.new }
     ensures cause { HasCause LoadFault.Store LoadFault.Memory (S.faults store.old) (S.faults store.new) result }
@@ -277,6 +280,7 @@ pub fn prepare<S: Store>(
     ensures free { ForSome (S.files store.new) (NoneFrom head.now.table names.new.run names.new.session names.new.next) }
     ensures others { LeavesOthers head.now.table names.old (S.files store.old) (S.files store.new) }
     ensures kept { KeepsFiles (S.files store.old) (S.files store.new) }
+    ensures reads { S.reads store.new ≡ S.reads store.old }
     ensures kind { IfErr result (λ f. (f ≡ LoadFault.Store) ⊎ (f ≡ LoadFault.Memory)) }
     ensures unsettled { IsErrOf result LoadFault.Store → 0 < S.unsettled store.new }
     ensures cause { HasCause LoadFault.Store LoadFault.Memory (S.faults store.old) (S.faults store.new) result }

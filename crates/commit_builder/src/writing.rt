@@ -38,6 +38,7 @@ pub(crate) fn put_next<S: Store>(
     ensures free { ForSome (S.files store.new) (NoneFrom table.now names.new.run names.new.session names.new.next) }
     ensures others { LeavesOthers table.now names.old (S.files store.old) (S.files store.new) }
     ensures kept { KeepsFiles (S.files store.old) (S.files store.new) }
+    ensures reads { S.reads store.new ≡ S.reads store.old }
     ensures kind { IfErr result (λ f. (f ≡ LoadFault.Store) ⊎ (f ≡ LoadFault.Memory)) }
     ensures unsettled { IsErrOf result LoadFault.Store → 0 < S.unsettled store.new }
     ensures cause { HasCause LoadFault.Store LoadFault.Memory (S.faults store.old) (S.faults store.new) result }
@@ -136,6 +137,7 @@ pub(crate) fn put_manifests<S: Store>(
     ensures free { ForSome (S.files store.new) (NoneFrom head.now.table names.new.run names.new.session names.new.next) }
     ensures others { LeavesOthers head.now.table names.old (S.files store.old) (S.files store.new) }
     ensures kept { KeepsFiles (S.files store.old) (S.files store.new) }
+    ensures reads { S.reads store.new ≡ S.reads store.old }
     ensures kind { IfErr result (λ f. (f ≡ LoadFault.Store) ⊎ (f ≡ LoadFault.Memory)) }
     ensures unsettled { IsErrOf result LoadFault.Store → 0 < S.unsettled store.new }
     ensures cause { HasCause LoadFault.Store LoadFault.Memory (S.faults store.old) (S.faults store.new) result }

@@ -44,6 +44,7 @@ loop-rest-preserved g c = record {
       c.loop-rest.invariant.run c.loop-rest.invariant.session c.loop-rest.invariant.above c.loop-rest.invariant.others
       (subst (λ (table : List ℕ). LeavesOthers table c.loop-rest.names (g.S.Store.files c.loop-rest.store) (g.S.Store.files c.put_next.new.store)) c.as_str.ensures c.put_next.ensures.others);
   kept = search rules;
+  reads = search rules;
   faults = search rules;
 }
 

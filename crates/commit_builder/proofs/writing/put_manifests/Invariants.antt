@@ -19,6 +19,7 @@ invariant-loop-rest g l = record {
   above : l.initial.names.next ≤ l.names.next;
   others : LeavesOthers l.head.table l.initial.names (g.S.Store.files l.initial.store) (g.S.Store.files l.store);
   kept : KeepsFiles (g.S.Store.files l.initial.store) (g.S.Store.files l.store);
+  reads : g.S.Store.reads l.store ≡ g.S.Store.reads l.initial.store;
   faults : g.S.Store.faults l.store ≡ g.S.Store.faults l.initial.store;
 }
 
