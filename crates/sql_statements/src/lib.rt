@@ -15,6 +15,7 @@ mod runs;
 mod statement;
 mod tables;
 
+pub use clauses::holds;
 pub use effect::{Effect, NewRow, PlainFault, SqlRefusal};
 pub use filter::filter_of;
 pub use fits::{are_wide, sources_are_wide};
