@@ -1,0 +1,4 @@
+pub mod FileRows
+pub mod PartingLaws
+pub mod RowLaws
+pub mod ScanLaws
