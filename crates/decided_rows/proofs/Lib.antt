@@ -1,0 +1,3 @@
+pub mod CopyLaws
+pub mod FileDecisions
+pub mod SameFiles
