@@ -1,5 +1,5 @@
 -- Copy-on-write by the decisions of a statement leaves the rows that the statement leaves.
-use Rattle.std.proofs.Common.{◌≡◌, ℕ, ◌+◌, ◌⊎◌, ⊎_elim, ◌&&◌, ◌||◌, not, Bool, true, false, true≢false, cond, List, [], ◌∷◌, ◌++◌, append_assoc, append-nil, map, filter, flat_map, take, drop, Result, Ok, refl, sym, ap, ◌∙◌, subst, inl, inr, arith}
+use Rattle.std.proofs.Common.{◌≡◌, ℕ, ◌+◌, ◌⊎◌, ⊎_elim, ◌&&◌, ◌||◌, not, Bool, true, false, cond, List, [], ◌∷◌, ◌++◌, append_assoc, append-nil, map, filter, flat_map, take, drop, Ok, refl, sym, ap, ◌∙◌, subst, inl, inr, arith}
 use Rattle.std.specs.Prelude.{if◌then◌else◌}
 use Rattle.std.specs.List.{list_any}
 use Rattle.std.proofs.lemmas.Bool.{or_left, or_right}
@@ -13,7 +13,6 @@ use Rattle.row_values.specs.declared.value.Value.{Value}
 use Rattle.sql_predicates.specs.declared.pred.Pred.{Pred}
 use Rattle.sql_statements.specs.declared.statement.Source.{Source}
 use Rattle.sql_statements.specs.declared.statement.Statement.{Statement}
-use Rattle.sql_statements.specs.Clauses.{holds_on}
 use Rattle.sql_statements.specs.Effects.{insertions, remains, rows_after}
 use Rattle.sql_statements.specs.NewRows.{row_of as row_made}
 use Rattle.store_core.specs.Files.{Files}
@@ -22,7 +21,6 @@ use Rattle.manifest_files.specs.declared.entry.Entry.{Entry}
 use Rattle.table_metadata.specs.Metadata.{Parts}
 use Rattle.table_state.specs.Files.{data_file_at}
 use Rattle.table_state.specs.Live.{data_rows}
-use Rattle.change_sets.specs.declared.scanned.LiveRow.{LiveRow}
 use Rattle.change_sets.specs.declared.scanned.ScannedFile.{ScannedFile}
 use Rattle.change_sets.specs.Laid.{without}
 use Rattle.change_sets.specs.Same.{is_among, same_file}

@@ -1,5 +1,5 @@
 -- The decisions of a statement, file by file: each file takes those of its own rows that are hit.
-use Rattle.std.proofs.Common.{◌≡◌, ℕ, suc, ◌||◌, Bool, true, false, true≢false, cond, List, [], ◌∷◌, ◌++◌, length, map, filter, flat_map, take, drop, slice_get, Some, None, refl, sym, ap, ◌∙◌, inl, inr}
+use Rattle.std.proofs.Common.{◌≡◌, suc, ◌||◌, Bool, true, false, true≢false, cond, List, [], ◌∷◌, ◌++◌, length, map, filter, flat_map, take, drop, slice_get, Some, None, refl, sym, ap, ◌∙◌, inl, inr}
 use Rattle.std.specs.Prelude.{if◌then◌else◌}
 use Rattle.std.specs.List.{list_any}
 use Rattle.std.proofs.lemmas.Bool.{or_parts}
@@ -20,7 +20,7 @@ use Rattle.change_sets.specs.declared.scanned.ScannedFile.{ScannedFile}
 use Rattle.change_sets.specs.Scanned.{row_of, rows_in}
 use Rattle.table_scan.specs.Parting.{entry_of}
 use Rattle.table_scan.specs.Scanning.{is_hit}
-use Rattle.cow_writer.specs.Deciding.{copied_of, decision_of, decisions_after, hits, is_touched, later_of, left_by, own_of, removed_of, rows_left, touches}
+use Rattle.cow_writer.specs.Deciding.{copied_of, hits, is_touched, later_of, left_by, own_of, removed_of, rows_left, touches}
 use Rattle.decided_rows.specs.Decisions.{KeepsMisses, decision_by, decision_for, hit_in, hit_rows}
 
 -- each row is marked as the filter says

@@ -14,7 +14,6 @@ use Rattle.sql_statements.specs.NewRows.{row_of}
 use Rattle.change_sets.specs.declared.scanned.Decision.{Decision}
 use Rattle.change_sets.specs.declared.scanned.Decision.TheVariants as decisions
 use Rattle.change_sets.specs.declared.scanned.Decisions.{Decisions}
-use Rattle.change_sets.specs.declared.scanned.LiveRow.{LiveRow}
 use Rattle.change_sets.specs.declared.scanned.ScannedFile.{ScannedFile}
 use Rattle.change_sets.specs.Scanned as scanned_rows
 use Rattle.table_scan.specs.Scanning.{is_hit}

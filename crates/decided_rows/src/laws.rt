@@ -1,13 +1,11 @@
 //! What holds of all statements. The law is the contract of a function that does nothing.
-ghost use Rattle.std.specs.Prelude.{◌≡◌, ◌++◌, ℕ, false, [], List as Seq, Ok};
+ghost use Rattle.std.specs.Prelude.{◌≡◌, ◌++◌, ℕ, [], List as Seq, Ok};
 ghost use Rattle.plain_types.specs.Bags.{SameBag};
 ghost use Rattle.row_values.specs.declared.value.Value.{Value};
 ghost use Rattle.sql_predicates.specs.declared.pred.Pred.{Pred};
 ghost use Rattle.sql_statements.specs.declared.statement.Source.{Source};
 ghost use Rattle.sql_statements.specs.declared.statement.Statement.{Statement};
-ghost use Rattle.sql_statements.specs.declared.effect.Effect.TheVariants as effects;
-ghost use Rattle.sql_statements.specs.Clauses.{holds_on};
-ghost use Rattle.sql_statements.specs.Effects.{effect, rows_after};
+ghost use Rattle.sql_statements.specs.Effects.{rows_after};
 ghost use Rattle.store_core.specs.Files.{Files};
 ghost use Rattle.manifest_files.specs.declared.entry.Entry.{Entry};
 ghost use Rattle.table_metadata.specs.Metadata.{Parts};
