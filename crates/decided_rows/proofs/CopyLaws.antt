@@ -221,6 +221,7 @@ module _ (itself : (entry : Entry) → same_file entry entry ≡ true) (paths : 
         apart : (one : ScannedFile) → In one all → changes_file sources s file ≡ false → (b : Bool) → same_file one.entry file.entry ≡ b → (changes_file sources s one && b) ≡ false
         apart one within none true same = ap (λ c. c && true) (ap (list_any (changes sources s)) (same_rows table parts pred files one file (are one within) (are file there) (paths one.entry file.entry same)) ∙ none)
         apart one within none false same = and_false (changes_file sources s one)
+
         by : (b : Bool) → changes_file sources s file ≡ b → list_any (λ (one : ScannedFile). changes_file sources s one && same_file one.entry file.entry) all ≡ b
         by true is = some_any (λ (one : ScannedFile). changes_file sources s one && same_file one.entry file.entry) file all there (ap (λ b. b && same_file file.entry file.entry) is ∙ itself file.entry)
         by false is = none_any (λ (one : ScannedFile). changes_file sources s one && same_file one.entry file.entry) all (λ one within. apart one within is (same_file one.entry file.entry) refl)
@@ -235,17 +236,23 @@ module _ (itself : (entry : Entry) → same_file entry entry ≡ true) (paths : 
         let removed : removed_of scanned (map (decision_for sources s) (hit_rows scanned)) ≡ map entry_of (filter (changes_file sources s) scanned) = removed_is sources s pred keeps scanned marked in
         let copied : copied_of scanned (map (decision_for sources s) (hit_rows scanned)) ≡ flat_map (left_in sources s) (filter (changes_file sources s) scanned) = copied_is sources s pred keeps scanned marked in
         let left = left_entries (map entry_of (filter (changes_file sources s) scanned)) stays all (λ file there. among_changed all scanned others parted missed are file there ∙ not_not (changes_file sources s file)) in
-        let rest = rows_in_all (filter stays all) in
-        (rest,
-        ap (λ (gone : List Entry). data_rows table parts [] (without gone (map entry_of all)) files) removed
-        ∙ ap (λ (entries : List Entry). data_rows table parts [] entries files) left
-        ∙ rows_read table parts pred files [] (filter stays all) (λ file there. are file (In-filter file stays all there).0),
-        λ weight.
-            let made = map row_made (insertions width sources s (rows_in_all all)) in
-            let copies = copied_of scanned (map (decision_for sources s) (hit_rows scanned)) in
-            omega (arith, weighed sources s all scanned others parted missed weight, ap (total weight) copied,
-            total-append weight rest (copies ++ made), total-append weight copies made,
-            total-append weight (flat_map (remains sources s) (rows_in_all all)) made))
+        let rest = rows_in_all (filter stays all) in (
+          rest,
+          ap (λ (gone : List Entry). data_rows table parts [] (without gone (map entry_of all)) files) removed
+              ∙ ap (λ (entries : List Entry). data_rows table parts [] entries files) left
+              ∙ rows_read table parts pred files [] (filter stays all) (λ file there. are file (In-filter file stays all there).0),
+          λ weight.
+              let made = map row_made (insertions width sources s (rows_in_all all)) in
+              let copies = copied_of scanned (map (decision_for sources s) (hit_rows scanned)) in
+              omega (
+                arith,
+                weighed sources s all scanned others parted missed weight,
+                ap (total weight) copied,
+                total-append weight rest (copies ++ made),
+                total-append weight copies made,
+                total-append weight (flat_map (remains sources s) (rows_in_all all)) made,
+              ),
+        )
 
     pub leaves : (entries : List Entry) (scanned : List ScannedFile) (width : ℕ) (rows : List (List Value)) → IsParted table parts pred entries files scanned → scanned_at table parts pred entries files ≡ Ok scanned → data_rows table parts [] entries files ≡ Ok rows → KeepsMisses pred sources s → Leaves width entries scanned rows
     leaves entries scanned width rows p is found keeps =
