@@ -104,3 +104,14 @@ module _ (table session other bytes : List ℕ) (run from n : ℕ) (files : File
     data_free = λ m above m_fits. stays files (metadata_name table run other n) bytes (data_name table run session m) (λ e. folders_apart table (named run session m ending) (named run other n ending) e) ∙ none.data_free m above m_fits;
     metadata_free = λ m above m_fits. stays files (metadata_name table run other n) bytes (metadata_name table run session m) (λ e. differ (sessions_apart run session other m n f s (text_in table (codes "/metadata/r") (named run session m ending) (named run other n ending) e))) ∙ none.metadata_free m above m_fits;
   }
+
+-- names of data files with other numbers
+pub data_names_apart : (table session : List ℕ) (run m n : ℕ) → m < 2 ^ 128 → n < 2 ^ 128 → m ≢ n → data_name table run session m ≢ data_name table run session n
+data_names_apart table session run m n m_fits n_fits apart e =
+    apart (same_number m n m_fits n_fits (same_texts run session m n (text_in table (codes "/data/r") (named run session m ending) (named run session n ending) e)))
+
+-- what stands under the name of a file
+pub stands : (files : Files) (name bytes : List ℕ) → map.get (with_file name bytes files) name ≡ Some bytes
+stands files name bytes =
+    get-insert nat_list_cmp_total files name bytes name
+    ∙ ap (λ b. cond b (Some bytes) (map.get files name)) (is_eq-slice_cmp name name ∙ (bytes_eq-Decides name name).1 refl)

@@ -34,6 +34,15 @@ impl Names {
         )
     }
 
+    /// The path of the next file of data or deletes, of a table with this location, where no slash ends it. It draws no
+    /// number.
+    pub fn data_path(&self, alloc: Global, location: &str) -> Result<String, AllocError>
+        ensures { IfOk result (λ path. string_bytes path ≡ data_name location.now self.now.run self.now.session self.now.next) }
+    {
+        let session = self.session.as_str();
+        name_in(alloc, location, "/data/r", self.run, session, self.next)
+    }
+
     /// A name for a manifest or a manifest list.
     pub fn metadata_name(&mut self, alloc: Global, table: &str) -> Result<String, AllocError>
         requires { self.old.next + 1 < 2 ^ 128 }

@@ -1,10 +1,11 @@
 -- What the files of a table hold, by the paths that the table's own files name them by, or why that can't be said.
-use Rattle.std.specs.Prelude.{ℕ, ℤ, codes, List, [], ◌∷◌, Option, Some, None, Result, if◌then◌else◌}
+use Rattle.std.specs.Prelude.{◌≡◌, ℕ, ℤ, codes, List, [], ◌∷◌, Option, Some, None, Result, if◌then◌else◌, Ok}
 use Rattle.std.specs.FinMap as map
 use Rattle.std.specs.Ordering.{int_eq}
 use Rattle.plain_types.specs.Steps.{◌>>=◌, or_fault, fault_as}
 use Rattle.row_values.specs.declared.value.Value.{Value}
 use Rattle.row_values.specs.declared.schema.TableSchema.{TableSchema}
+use Rattle.row_values.specs.Rows.{AreRows}
 use Rattle.row_values.specs.declared.partition.Spec.{Spec}
 use Rattle.store_core.specs.Files.{Files}
 use Rattle.avro_container.specs.Container.{container_of}
@@ -74,3 +75,7 @@ rows_in parts path bytes = do
 -- the rows of a data file, in the columns of the current schema
 unfoldable pub data_file_at : List ℕ → Parts → List ℕ → Files → Result (List (List Value)) LoadFault
 data_file_at table parts path files = file_at table parts.location path files >>= rows_in parts path
+
+-- each of the rows is a row of the columns of the current schema
+abbrev pub AreCurrentRows : Parts → List (List Value) → Type 0
+AreCurrentRows parts rows = (schema : TableSchema) × (current_schema parts ≡ Ok schema) × AreRows schema.columns rows

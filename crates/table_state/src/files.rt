@@ -3,7 +3,7 @@ ghost use Rattle.std.specs.Prelude.{◌≡◌, ◌≢◌, ◌<◌, Ok, Err, IfOk
 ghost use Rattle.std.specs.Option.{ForSome, option_copied};
 ghost use Rattle.plain_types.specs.Causes.{HasCause};
 ghost use Rattle.table_metadata.specs.Metadata.{parts};
-ghost use Rattle.table_state.specs.Files.{bytes_under, current_schema, data_file_at, entries_in, file_at, list_at, list_in, manifest_at, rows_in, schema_with, spec_with};
+ghost use Rattle.table_state.specs.Files.{AreCurrentRows, bytes_under, current_schema, data_file_at, entries_in, file_at, list_at, list_in, manifest_at, rows_in, schema_with, spec_with};
 
 use crate::load_fault::{LoadFault, container_fault, manifest_fault, rows_fault};
 use crate::paths::name_of;
@@ -194,6 +194,7 @@ fn rows_in(
     bytes: &[u8],
 ) -> Result<List<Row>, LoadFault>
     ensures ok { IfOk result (λ rows. rows_in (parts metadata.now) path.now bytes.now ≡ Ok rows) }
+    ensures rows { IfOk result (λ rows. AreCurrentRows (parts metadata.now) rows) }
     ensures err { IfErr result (λ f. f ≢ LoadFault.Store → f ≢ LoadFault.Memory → rows_in (parts metadata.now) path.now bytes.now ≡ Err f) }
     ensures inside { IsErrOf result LoadFault.Store → ⊥ }
 {
@@ -218,6 +219,7 @@ pub fn read_data_file_at<S: Store>(
     path: &str,
 ) -> Result<List<Row>, LoadFault>
     ensures ok { IfOk result (λ rows. ForSome (S.files store.old) (λ files. data_file_at table.now (parts metadata.now) path.now files ≡ Ok rows)) }
+    ensures rows { IfOk result (λ rows. AreCurrentRows (parts metadata.now) rows) }
     ensures err { IfErr result (λ f. f ≢ LoadFault.Store → f ≢ LoadFault.Memory → ForSome (S.files store.old) (λ files. data_file_at table.now (parts metadata.now) path.now files ≡ Err f)) }
     ensures files { S.files store.new ≡ S.files store.old }
     ensures unsettled { IsErrOf result LoadFault.Store → 0 < S.unsettled store.new }

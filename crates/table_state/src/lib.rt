@@ -14,4 +14,4 @@ pub use files::{read_data_file_at, read_list_at, read_manifest_at, schema_with, 
 pub use laws::branches_stand_when_files_are_added;
 pub use live_set::{BranchState, LiveSet};
 pub use load_fault::LoadFault;
-pub use paths::name_of;
+pub use paths::{folder_of, name_of};

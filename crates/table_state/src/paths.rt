@@ -16,7 +16,7 @@ pub fn name_of(
 ) -> Result<Option<String>, AllocError>
     ensures { IfOk result (λ name. option_map string_bytes name ≡ name_of table.now location.now path.now) }
 {
-    match parts_of(location.as_bytes(), path.as_bytes()) {
+    match parts_of(location, path.as_bytes()) {
         Some(parts) => Ok(Some(name_in(alloc, table, parts)?)),
         None => Ok(None),
     }
@@ -28,20 +28,21 @@ fn name_in(alloc: Global, table: &str, parts: &str) -> Result<String, AllocError
     format!(in alloc; "{table}/{parts}")
 }
 
-fn folder_of(location: &[u8]) -> &[u8]
+/// The location without one slash at its end.
+pub fn folder_of(location: &str) -> &str
     ensures { result.now ≡ folder_of location.now }
 {
-    match location.last() {
-        Some(b'/') => &location[..location.len() - 1],
-        _ => location,
+    match location.strip_suffix("/") {
+        Some(folder) => folder,
+        None => location,
     }
 }
 
 #[tactic(auto, unfolding(crate::specs::Paths::parts_of))]
-fn parts_of<'p>(location: &[u8], path: &'p [u8]) -> Option<&'p str>
+fn parts_of<'p>(location: &str, path: &'p [u8]) -> Option<&'p str>
     ensures { option_map (λ parts. parts.now) result ≡ parts_of location.now path.now }
 {
-    parts_behind(after_text(folder_of(location), path)?)
+    parts_behind(after_text(folder_of(location).as_bytes(), path)?)
 }
 
 fn parts_behind(bytes: &[u8]) -> Option<&str>
