@@ -11,3 +11,5 @@ mod rows;
 mod written_containers;
 #[cfg(test)]
 mod written_datums;
+#[cfg(test)]
+mod written_rows;

@@ -1,0 +1,15 @@
+pub mod Ascii
+pub mod Begun
+pub mod DatumOut
+pub mod FieldLaws
+pub mod KindFits
+pub mod KindLaws
+pub mod KindPlans
+pub mod KindText
+pub mod PlanNames
+pub mod PlanOut
+pub mod PlanRoom
+pub mod PlanText
+pub mod Plans
+pub mod Powers
+pub mod Tests

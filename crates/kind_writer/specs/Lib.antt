@@ -1,0 +1,4 @@
+pub mod Field
+pub mod KindDatum
+pub mod KindTypes
+pub mod Names

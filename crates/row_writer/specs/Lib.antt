@@ -1,0 +1,5 @@
+pub mod Readable
+pub mod RowDatum
+pub mod RowTypes
+pub mod RowsText
+pub mod Short

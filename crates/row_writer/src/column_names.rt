@@ -1,0 +1,61 @@
+//! The names of the fields.
+ghost use Rattle.std.specs.Prelude.{◌≡◌, IfOk, string_bytes};
+ghost use Rattle.std.specs.Str.{bytes_eq};
+ghost use Rattle.row_writer.specs.RowTypes.{has_name, are_names, column_name, decimal_name};
+
+use avro_binary::Octets;
+use kind_writer::{id_name, is_name};
+use row_values::Column;
+use std::alloc::{AllocError, Global};
+
+fn is_same(name: &[u8], other: &[u8]) -> bool
+    ensures { result ≡ bytes_eq name.now other.now }
+{
+    name == other
+}
+
+fn has_name(name: &[u8], columns: &[Column]) -> bool
+    ensures { result ≡ has_name name.now columns.now }
+{
+    let mut rest = columns;
+    while let [column, after @ ..] = rest {
+        if is_same(column.name.as_bytes(), name) {
+            return true;
+        }
+        rest = after;
+    }
+    false
+}
+
+/// Whether each column has a name of Avro of its own.
+#[tactic(auto, unfolding(crate::specs::RowTypes::are_names))]
+pub(crate) fn are_names(columns: &[Column]) -> bool
+    ensures { result ≡ are_names columns.now }
+{
+    let mut rest = columns;
+    while let [column, after @ ..] = rest {
+        if !is_name(column.name.as_bytes()) || has_name(column.name.as_bytes(), after) {
+            return false;
+        }
+        rest = after;
+    }
+    true
+}
+
+pub(crate) fn column_name(alloc: Global, keeps: bool, column: &Column) -> Result<Octets, AllocError>
+    ensures { IfOk result (λ name. name ≡ column_name keeps column.now) }
+{
+    if keeps {
+        return Octets::copy_of(alloc, column.name.as_bytes());
+    }
+    let name = id_name(alloc, column.id)?;
+    Octets::copy_of(alloc, name.as_bytes())
+}
+
+/// The name of the type of a column's decimals.
+pub(crate) fn decimal_name(alloc: Global, id: i32) -> Result<String, AllocError>
+    ensures { IfOk result (λ name. string_bytes name ≡ decimal_name id) }
+{
+    let name = id_name(alloc, id)?;
+    format!(in alloc; "decimal_{name}")
+}
