@@ -11,8 +11,8 @@ loop-row-preserved c =
     record {
       taken = append_assoc at.yielded (x ∷ []) _ ∙ rw (← steps) at.invariant.taken;
       live =
-        let place : c.len-position.result ≡ length at.yielded = omega (arith, c.len-position.ensures, ap length at.invariant.live, live_count c.args.filter.now at.yielded) in
-        pushed c.args.filter.now at.yielded x _ _ _ _ c.in_ok-push.ensures.items at.invariant.live place (search rules);
+          let place : c.len-position.result ≡ length at.yielded = omega (arith, c.len-position.ensures, ap length at.invariant.live, live_count c.args.filter.now at.yielded) in
+          pushed c.args.filter.now at.yielded x _ _ _ _ c.in_ok-push.ensures.items at.invariant.live place (search rules);
       left =
           let was = at.invariant.left in
           let gone = c.in-Some.ensures.steps.1 in
