@@ -1,9 +1,8 @@
 -- The rows of the next version.
-use Rattle.std.proofs.Common.{◌≡◌, ◌+◌, ◌<◌, ◌^◌, ℕ, ℤ, Bool, true, false, not, ◌&&◌, cond, List, [], ◌∷◌, ◌++◌, map, filter, length, Option, Some, None, Result, Ok, refl, sym, ap, subst, ◌∙◌, arith, true≢false}
+use Rattle.std.proofs.Common.{◌≡◌, ◌+◌, ◌<◌, ◌^◌, ℕ, ℤ, Bool, true, false, not, ◌&&◌, cond, List, [], ◌∷◌, ◌++◌, map, filter, length, Option, Some, Result, Ok, refl, sym, ap, subst, ◌∙◌, arith, true≢false}
 use Rattle.std.specs.FinMap as files_map
 use Rattle.std.specs.List.{list_all}
 use Rattle.laid_rows.proofs.Rows.{same_rows}
-use Rattle.plain_types.proofs.BagLaws.{SameBag-trans}
 use Rattle.plain_types.specs.Bags.{SameBag}
 use Rattle.plain_types.specs.Steps.{◌>>=◌, fault_as, or_fault}
 use Rattle.row_values.specs.declared.value.Value.{Value}
@@ -12,8 +11,6 @@ use Rattle.store_core.specs.Files.{Files, KeepsFiles}
 use Rattle.file_names.specs.declared.names.Names.{Names}
 use Rattle.file_names.specs.FileNames.{NoneFrom}
 use Rattle.manifest_files.specs.declared.entry.Entry.{Entry}
-use Rattle.manifest_files.specs.declared.manifest_row.ManifestRow.{ManifestRow}
-use Rattle.table_metadata.specs.declared.metadata_fault.MetadataFault.{MetadataFault}
 use Rattle.table_metadata.specs.Metadata.{Parts, metadata_of, parts}
 use Rattle.table_names.specs.Versions.{version_name}
 use Rattle.table_state.specs.declared.live_set.BranchState.{BranchState}
@@ -22,11 +19,10 @@ use Rattle.table_state.specs.declared.live_set.LiveSet.{LiveSet}
 use Rattle.table_state.specs.declared.load_fault.LoadFault.{LoadFault}
 use Rattle.table_state.specs.declared.load_fault.LoadFault.TheVariants as fault
 use Rattle.table_state.specs.Files.{data_file_at, rows_in as decoded_rows, version_at}
-use Rattle.table_state.specs.Live.{branch_at, data_files_of, data_rows, is_data, is_live, rows_at, rows_of_branch, set_of}
+use Rattle.table_state.specs.Live.{branch_at, data_files_of, data_rows, is_data, is_live, rows_at, rows_of_branch}
 use Rattle.table_load.proofs.Parting.{found_head}
 use Rattle.table_load.specs.declared.state.State.{State}
 use Rattle.table_load.specs.States.{IsStateOf}
-use Rattle.change_sets.specs.declared.change.AddedAs.{AddedAs}
 use Rattle.change_sets.specs.declared.change.ChangeSet.{ChangeSet}
 use Rattle.change_sets.specs.Laid.{as_added, laid, without}
 use Rattle.change_sets.specs.Same.{is_among}
