@@ -41,7 +41,8 @@ fn columns(alloc: Global) -> Result<List<Column>, AllocError> {
     ];
     let mut columns = List::new(alloc);
     for kind in kinds {
-        column(alloc, &mut columns, kind, columns.len() % 2 == 1)?;
+        let required = columns.len() % 2 == 1;
+        column(alloc, &mut columns, kind, required)?;
     }
     Ok(columns)
 }

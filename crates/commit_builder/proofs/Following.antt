@@ -1,8 +1,7 @@
 -- The snapshot of a commit can follow those of the head.
-use Rattle.std.proofs.Common.{◌≡◌, ◌<◌, ◌^◌, ℕ, ℤ, pos, neg_ℤ, ◌+ℤ◌, Bool, true, false, ◌||◌, ◌&&◌, List, [], ◌∷◌, ◌++◌, map, Option, Some, refl, sym, subst, ◌∙◌, arith, true≢false}
-use Rattle.std.specs.Prelude.{if◌then◌else◌, int_lt, int_le, IsTrue}
+use Rattle.std.proofs.Common.{◌≡◌, ◌^◌, ℤ, pos, ◌+ℤ◌, Bool, true, false, ◌||◌, ◌&&◌, List, [], ◌∷◌, ◌++◌, map, refl, sym, subst, ◌∙◌, arith, true≢false}
+use Rattle.std.specs.Prelude.{if◌then◌else◌, int_lt, int_le}
 use Rattle.std.specs.Int.{int_max}
-use Rattle.std.specs.List.{list_any}
 use Rattle.std.specs.Ordering.{int_eq}
 use Rattle.std.proofs.lemmas.Int.{ints}
 use Rattle.file_names.specs.declared.names.Names.{Names}

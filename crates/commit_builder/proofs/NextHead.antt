@@ -1,11 +1,11 @@
 -- The branch of the next version: its snapshot, the list of it, and what the manifests of the list hold live.
-use Rattle.std.proofs.Common.{◌≡◌, ◌<◌, ◌≤◌, ◌+◌, ◌^◌, ℕ, ℤ, Bool, true, false, not, ◌&&◌, ◌||◌, cond, List, [], ◌∷◌, ◌++◌, map, filter, length, Option, Some, None, Result, Ok, refl, sym, ap, subst, ◌∙◌, arith, true≢false}
+use Rattle.std.proofs.Common.{◌≡◌, ◌<◌, ◌+◌, ◌^◌, ℕ, ℤ, Bool, true, false, not, ◌&&◌, ◌||◌, cond, List, [], ◌∷◌, ◌++◌, map, filter, length, Option, Some, None, Result, Ok, refl, sym, ap, ◌∙◌, arith, true≢false}
 use Rattle.std.specs.Prelude.{if◌then◌else◌, nat_eq}
 use Rattle.std.specs.declared.cmp.Ordering.{Ordering}
 use Rattle.std.specs.declared.cmp.Ordering.TheVariants.{Less, Equal, Greater}
 use Rattle.std.specs.Cmp.Lexicographic.{pointwise, slice_cmp}
 use Rattle.std.specs.FinMap as files_map
-use Rattle.std.specs.List.{AllByRecursion, list_all, list_any}
+use Rattle.std.specs.List.{list_all}
 use Rattle.std.specs.Ordering.{int_eq, is_eq, match_ordering, nat_cmp}
 use Rattle.std.specs.Str.{bytes_eq}
 use Rattle.std.proofs.lemmas.Int.{ints}
@@ -15,7 +15,7 @@ use Rattle.plain_types.proofs.BagLaws.{total-append, total-map}
 use Rattle.plain_types.specs.Bags.{total}
 use Rattle.plain_types.specs.Steps.{◌>>=◌, by_option, fault_as, or_fault}
 use Rattle.store_core.proofs.FilesLemmas.{kept-with_file}
-use Rattle.store_core.specs.Files.{Files, KeepsFiles, with_file}
+use Rattle.store_core.specs.Files.{Files, KeepsFiles}
 use Rattle.file_names.specs.declared.names.Names.{Names}
 use Rattle.file_names.specs.FileNames.{NoneFrom}
 use Rattle.written_paths.proofs.Paths.{metadata_is}
@@ -35,22 +35,18 @@ use Rattle.table_state.specs.declared.load_fault.LoadFault.{LoadFault}
 use Rattle.table_state.specs.declared.load_fault.LoadFault.TheVariants as fault
 use Rattle.table_state.specs.declared.live_set.BranchState.{BranchState}
 use Rattle.table_state.specs.declared.live_set.BranchState.TheVariants as state
-use Rattle.table_state.specs.declared.live_set.LiveSet.{LiveSet}
-use Rattle.table_state.specs.Files.{file_at, list_at, list_in, manifest_at, entries_in}
+use Rattle.table_state.specs.Files.{list_at, list_in, manifest_at, entries_in}
 use Rattle.table_state.specs.Live.{branch_at, entries_at, head_at, head_of, is_data, is_live, set_of, snapshot_at as read_snapshot, snapshot_with, without_head}
-use Rattle.table_state.specs.Paths.{folder_of, name_of}
-use Rattle.table_load.specs.declared.state.LiveCount.{LiveCount}
+use Rattle.table_state.specs.Paths.{name_of}
 use Rattle.table_load.specs.declared.state.State.{State}
 use Rattle.table_load.specs.States.{IsParted, IsStateOf, manifests_of}
 use Rattle.table_load.proofs.Parting.{head_is_parted}
-use Rattle.change_sets.specs.declared.change.AddedAs.{AddedAs}
 use Rattle.change_sets.specs.declared.change.ChangeSet.{ChangeSet}
 use Rattle.change_sets.specs.Laid.{as_kept, laid}
 use Rattle.commit_builder.specs.declared.drafts.Draft.{Draft}
 use Rattle.commit_builder.specs.Commits.{AreSpelled, commit_numbers, drafts_in, files_after, list_names, live_in, manifests_after, next_name, numbers_in, rows_in, schema_of, snapshot_in, sorted_in}
 use Rattle.commit_builder.specs.Holding.{entries_of, held_after, standing_files}
 use Rattle.commit_builder.specs.NextVersion.{AreNames, CanBeLaid, HoldsChange, next_parts}
-use Rattle.commit_builder.specs.Sorting.{added_drafts, sorted_from, sorted_of}
 use Rattle.commit_builder.proofs.Every.{all_numbered}
 use Rattle.commit_builder.proofs.Held.{holds}
 use Rattle.commit_builder.proofs.Reading.{Stand, all_read, all_stand, file_is, keeps_from, none_from, row_list, rows_listed, there}

@@ -26,7 +26,7 @@ use Rattle.table_state.specs.declared.live_set.LiveSet.{LiveSet}
 use Rattle.table_state.specs.declared.load_fault.LoadFault.{LoadFault}
 use Rattle.table_state.specs.declared.load_fault.LoadFault.TheVariants as fault
 use Rattle.table_state.specs.Files.{bytes_under, entries_in, file_at, manifest_at}
-use Rattle.table_state.specs.Live.{branch_at, entries_at, is_data, is_live, set_of}
+use Rattle.table_state.specs.Live.{branch_at, entries_at, is_data, is_live}
 use Rattle.table_state.specs.Paths.{name_of}
 use Rattle.change_sets.specs.declared.change.ChangeSet.{ChangeSet}
 use Rattle.commit_builder.specs.Commits.{live_in, numbers_in, schema_of, sorted_in}

@@ -1,6 +1,6 @@
 -- A commit of a change onto the head of a branch (Iceberg specification, "Snapshots", "Sequence Numbers" and "Manifest
 -- Lists"): its snapshot, the files that it puts, and the version that it prepares.
-use Rattle.std.specs.Prelude.{ℕ, ◌+◌, ◌<◌, ◌^◌, ℤ, pos, ◌+ℤ◌, Bool, true, false, ◌&&◌, codes, if◌then◌else◌, List, [], ◌∷◌, ◌++◌, length, Option, Some, None}
+use Rattle.std.specs.Prelude.{ℕ, ◌+◌, ◌<◌, ◌^◌, ℤ, pos, ◌+ℤ◌, Bool, ◌&&◌, codes, if◌then◌else◌, List, [], ◌∷◌, ◌++◌, length, Option, Some, None}
 use Rattle.std.specs.Int.{int_max}
 use Rattle.std.specs.List.{AllByRecursion}
 use Rattle.plain_types.specs.Steps.{by_option}

@@ -1,6 +1,6 @@
 -- A commit that is read again (Iceberg specification, "Snapshots", "Manifest Lists", "Manifests" and "Sequence Number
 -- Inheritance"): the files that it puts, and those of the head.
-use Rattle.std.specs.Prelude.{◌≡◌, ◌<◌, ◌^◌, ◌++◌, ℕ, ℤ, int_lt, true, not, List, length, map, Some, Ok, IsTrue}
+use Rattle.std.specs.Prelude.{◌≡◌, ◌<◌, ◌^◌, ◌++◌, ℤ, int_lt, true, not, length, map, Some, Ok, IsTrue}
 use Rattle.std.specs.List.{AllByRecursion, list_all}
 use Rattle.std.specs.Str.{IsUtf8}
 use Rattle.plain_types.specs.Bags.{SameBag}

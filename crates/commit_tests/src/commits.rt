@@ -128,7 +128,9 @@ fn has_paths(entries: &[Entry], paths: &[&str]) -> bool {
 
 fn has_made(head: &State, step: &Step) -> bool {
     let BranchState::Head {
-        manifests, live, ..
+        manifests,
+        live,
+        ..
     } = &head.head
     else {
         return false;

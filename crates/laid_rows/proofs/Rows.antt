@@ -1,5 +1,5 @@
 -- The rows of data files, weighed file by file.
-use Rattle.std.proofs.Common.{◌≡◌, ◌+◌, ℕ, Bool, true, false, List, [], ◌∷◌, ◌++◌, map, Result, Ok, Err, refl, sym, ap, ◌∙◌, append_assoc, append-nil, arith}
+use Rattle.std.proofs.Common.{◌≡◌, ℕ, List, [], ◌∷◌, ◌++◌, map, Result, Ok, Err, refl, sym, ap, ◌∙◌, append_assoc, append-nil, arith}
 use Rattle.plain_types.proofs.BagLaws.{total-append, total-map}
 use Rattle.plain_types.specs.Bags.{SameBag, total}
 use Rattle.plain_types.specs.Steps.{◌>>=◌}

@@ -37,12 +37,16 @@ one_more pred at (first ∷ rows) row =
     ap (λ more. live_at pred at first ∷ more) (one_more pred (at + 1) rows row ∙ ap (λ n. rows_from pred (at + 1) rows ++ live_at pred n row ∷ []) same)
 
 -- one row more, at its position
-pub live_more : (pred : Pred) (rows : List (List Value)) (row : List Value) (position : ℕ) (hit : Bool) → position ≡ length rows → hit ≡ holds_on pred row → live_rows pred (rows ++ row ∷ []) ≡ live_rows pred rows ++ record { position = position; row = row; hit = hit } ∷ []
+live_more : (pred : Pred) (rows : List (List Value)) (row : List Value) (position : ℕ) (hit : Bool) → position ≡ length rows → hit ≡ holds_on pred row → live_rows pred (rows ++ row ∷ []) ≡ live_rows pred rows ++ record { position = position; row = row; hit = hit } ∷ []
 live_more pred rows row position hit at same =
     let place : 0 + length rows ≡ position = omega arith in
     one_more pred 0 rows row
     ∙ ap (λ n. live_rows pred rows ++ live_at pred n row ∷ []) place
     ∙ ap (λ (b : Bool). live_rows pred rows ++ record { position = position; row = row; hit = b } ∷ []) (sym same)
+
+pub pushed : (pred : Pred) (rows : List (List Value)) (row : List Value) (old new : List LiveRow) (position : ℕ) (hit : Bool) → new ≡ old ++ record { position = position; row = row; hit = hit } ∷ [] → old ≡ live_rows pred rows → position ≡ length rows → hit ≡ holds_on pred row → new ≡ live_rows pred (rows ++ row ∷ [])
+pushed pred rows row old new position hit more live at same =
+    more ∙ ap (λ (before : List LiveRow). before ++ record { position = position; row = row; hit = hit } ∷ []) live ∙ sym (live_more pred rows row position hit at same)
 
 -- ---- the filter reads them
 

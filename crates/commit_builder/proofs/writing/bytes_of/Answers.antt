@@ -1,6 +1,4 @@
-use Rattle.std.proofs.Common.{rules, List, ℕ, ap, ◌∙◌}
-use Rattle.row_values.specs.declared.partition.Spec.{Spec}
-use Rattle.manifest_writer.specs.EntryDatum.{manifest_text}
+use Rattle.std.proofs.Common.{rules}
 use Rattle.commit_builder.specs.Commits.{text_in}
 use Rattle.commit_builder.proofs.writing.bytes_of.Goals as goal
 

@@ -1,4 +1,4 @@
-use Rattle.std.proofs.Common.{◌≡◌, ◌+◌, ◌<◌, ◌^◌, ℕ, List, option_map, refl, ap, ◌∙◌, subst, arith}
+use Rattle.std.proofs.Common.{◌+◌, ◌<◌, ◌^◌, ℕ, List, option_map, refl, ap, ◌∙◌, subst, arith}
 use Rattle.std.specs.FinMap as map
 use Rattle.store_core.specs.Files.{MayAdd, with_file}
 use Rattle.commit_builder.proofs.Puts.{free_at, free_may, free_same, free_with, may_by, others_may, others_with}

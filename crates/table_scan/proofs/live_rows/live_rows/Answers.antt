@@ -1,7 +1,6 @@
-use Rattle.std.proofs.Common.{◌≡◌, ◌∷◌, [], ◌++◌, List, length, sym, ap, ◌∙◌, append_assoc, arith}
+use Rattle.std.proofs.Common.{◌≡◌, ◌∷◌, [], ◌++◌, length, ap, ◌∙◌, append_assoc, rules, arith}
 use Rattle.std.specs.Vec.Iter.{into_iter_items}
-use Rattle.change_sets.specs.declared.scanned.LiveRow.{LiveRow}
-use Rattle.table_scan.proofs.RowLaws.{live_count, live_more}
+use Rattle.table_scan.proofs.RowLaws.{live_count, pushed}
 use Rattle.table_scan.proofs.live_rows.live_rows.Goals as goal
 
 pub loop-row-preserved : goal.loop-row-preserved
@@ -13,9 +12,7 @@ loop-row-preserved c =
       taken = append_assoc at.yielded (x ∷ []) _ ∙ rw (← steps) at.invariant.taken;
       live =
           let place : c.len-position.result ≡ length at.yielded = omega (arith, c.len-position.ensures, ap length at.invariant.live, live_count c.args.filter.now at.yielded) in
-          c.in_ok-push.ensures.items
-          ∙ ap (λ (live : List LiveRow). live ++ record { position = c.len-position.result; row = x; hit = c.holds-hit.result } ∷ []) at.invariant.live
-          ∙ sym (live_more c.args.filter.now at.yielded x c.len-position.result c.holds-hit.result place c.holds-hit.ensures);
+          pushed c.args.filter.now at.yielded x _ _ _ _ c.in_ok-push.ensures.items at.invariant.live place (search rules);
       left =
           let was = at.invariant.left in
           let gone = c.in-Some.ensures.steps.1 in

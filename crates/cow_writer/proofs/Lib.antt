@@ -1,0 +1,6 @@
+pub mod CopyLaws
+pub mod NameLaws
+pub mod PieceLaws
+pub mod PutLaws
+pub mod WriteLaws
+pub mod WrittenRows

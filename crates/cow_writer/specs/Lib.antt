@@ -1,0 +1,5 @@
+pub mod Copies
+pub mod Deciding
+pub mod Pieces
+pub mod PutNames
+pub mod Reading

@@ -1,0 +1,13 @@
+//! Writes what copy-on-write leaves: the data files that lose a row are removed, and their other rows are written anew with
+//! the rows that a statement makes.
+#![tactic(auto)]
+
+mod deciding;
+mod laws;
+mod pieces;
+mod puts;
+mod touched;
+mod writing;
+
+pub use laws::{a_copy_holds_the_rows_after, written_rows_are_of_their_columns};
+pub use writing::write_copies;
