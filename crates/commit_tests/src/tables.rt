@@ -1,13 +1,15 @@
 //! A table in memory, and the version that a change makes of it.
-ghost use Rattle.std.specs.Prelude.{◌≡◌};
+ghost use Rattle.std.specs.Prelude.{◌≡◌, IfOk};
+ghost use Rattle.std.specs.Option.{ForSome};
+ghost use Rattle.file_names.specs.FileNames.{NoneFrom};
 
 use change_sets::{ChangeSet, Plan};
 use commit_builder::{Prepared, prepare};
 use file_names::Names;
 use plain_types::Text;
-use run_numbers::fresh_run;
+use run_numbers::{a_fresh_run_has_free_names, fresh_run};
 use std::alloc::{AllocError, Global};
-use store_core::{Blob, File, List, MemoryStore, Name, Store};
+use store_core::{Blob, File, List, MemoryStore, Name, Store, StoreFault};
 use table_definition::{first_text, read_definition};
 use table_load::{State, load};
 use table_names::current_version;
@@ -74,22 +76,32 @@ fn plan_on(alloc: Global, version: u32) -> Result<Plan, AllocError> {
     })
 }
 
+/// The names of a new run.
+fn fresh_names<S: Store>(alloc: Global, store: &mut S, table: &str) -> Result<Names, StoreFault>
+    ensures free { IfOk result (λ names. ForSome (S.files store.new) (NoneFrom table.now names.run names.session names.next)) }
+    ensures first { IfOk result (λ names. names.next ≡ 1) }
+    ensures files { S.files store.new ≡ S.files store.old }
+{
+    let run = fresh_run(alloc, store, table)?;
+    a_fresh_run_has_free_names();
+    Ok(Names {
+        run,
+        session: Text::copy_of(alloc, "s")?,
+        next: 1,
+    })
+}
+
 /// Prepares the version with this change, by a new run.
 pub(crate) fn prepare_on<S: Store>(
     alloc: Global,
     store: &mut S,
     change: &ChangeSet,
 ) -> Result<Prepared, LoadFault> {
-    let run = match fresh_run(alloc, store, TABLE) {
-        Ok(run) => run,
-        Err(fault) => return Err(LoadFault::from(fault)),
-    };
     let head = head_in(alloc, store)?;
     let plan = plan_on(alloc, head.version)?;
-    let mut names = Names {
-        run,
-        session: Text::copy_of(alloc, "s")?,
-        next: 1,
+    let mut names = match fresh_names(alloc, store, head.table.as_str()) {
+        Ok(names) => names,
+        Err(fault) => return Err(LoadFault::from(fault)),
     };
     if head.version == u32::MAX || head.metadata.last_sequence == i64::MAX {
         return Err(LoadFault::Missing(Text::copy_of(alloc, TABLE)?));
