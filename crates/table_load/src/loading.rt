@@ -169,6 +169,7 @@ pub fn load<S: Store>(
     version: u32,
     branch: &str,
 ) -> Result<State, LoadFault>
+    ensures place { IfOk result (λ state. (state.table ≡ table.now) × (state.branch ≡ branch.now) × (state.version ≡ version)) }
     ensures ok { IfOk result (λ state. ForSome (S.files store.old) (λ files. IsStateOf table.now version branch.now files state)) }
     ensures err { IfErr result (λ f. f ≢ LoadFault.Store → f ≢ LoadFault.Memory → ForSome (S.files store.old) (λ files. live_of table.now version branch.now files ≡ Err f)) }
     ensures files { S.files store.new ≡ S.files store.old }

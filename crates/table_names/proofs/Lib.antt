@@ -1,1 +1,2 @@
+pub mod VersionChanges
 pub mod VersionNames

@@ -88,7 +88,7 @@ append_twice (x ∷ xs) ys zs = ap (λ ws. x ∷ ws) (append_twice xs ys zs)
 named : (table : List ℕ) (n : ℕ) → version_name table n ≡ version_prefix table ++ (decimal n ++ ending)
 named table n = append_twice table (codes "/metadata/v") (decimal n ++ ending)
 
-is_of : (table : List ℕ) (n : ℕ) → 0 < n → n < 2 ^ 32 → version_of_name (version_prefix table) (version_name table n) ≡ n
+pub is_of : (table : List ℕ) (n : ℕ) → 0 < n → n < 2 ^ 32 → version_of_name (version_prefix table) (version_name table n) ≡ n
 unfolding version_of_name
 is_of table n above small =
     ap (λ name. by_option (after_text (version_prefix table) name) version_behind 0) (named table n)
@@ -107,7 +107,7 @@ begins_named table n = ap (λ name. starts_with nat_eq name (version_prefix tabl
 
 -- ---- the greatest
 
-abbrev starting : List ℕ → List ℕ → Bool
+abbrev pub starting : List ℕ → List ℕ → Bool
 starting prefix name = starts_with nat_eq name prefix
 
 same_name : (q name : List ℕ) (o : Ordering) → slice_cmp nat_cmp q name ≡ o → is_eq o ≡ true → q ≡ name
@@ -135,18 +135,18 @@ any_later : (b c : Bool) → b || c ≡ true → b ≡ false → c ≡ true
 any_later true c some not_here = absurd cc
 any_later false c some not_here = some
 
-at_least : (prefix q : List ℕ) (n : ℕ) → starting prefix q ≡ true → version_of_name prefix q ≡ n → (names : List (List ℕ)) → list_any (eq_by_cmp (slice_cmp nat_cmp) q) names ≡ true → n ≤ greatest_version prefix (filter (starting prefix) names)
+pub at_least : (prefix q : List ℕ) (n : ℕ) → starting prefix q ≡ true → version_of_name prefix q ≡ n → (names : List (List ℕ)) → list_any (eq_by_cmp (slice_cmp nat_cmp) q) names ≡ true → n ≤ greatest_version prefix (filter (starting prefix) names)
 at_least prefix q n starts is [] some = absurd cc
 at_least prefix q n starts is (name ∷ names) some =
     found_by prefix q n starts is name names (is_eq (slice_cmp nat_cmp q name)) refl
     (λ not_here. at_least prefix q n starts is names (any_later (is_eq (slice_cmp nat_cmp q name)) (list_any (eq_by_cmp (slice_cmp nat_cmp) q) names) some not_here))
 
-below_by : (table : List ℕ) (files : Files) (n : ℕ) → 0 < n → n < 2 ^ 32 → map.contains_key files (version_name table n) ≡ true → n ≤ greatest_version (version_prefix table) (names_with (version_prefix table) files)
+pub below_by : (table : List ℕ) (files : Files) (n : ℕ) → 0 < n → n < 2 ^ 32 → map.contains_key files (version_name table n) ≡ true → n ≤ greatest_version (version_prefix table) (names_with (version_prefix table) files)
 below_by table files n above small is =
     at_least (version_prefix table) (version_name table n) n (begins_named table n) (is_of table n above small) (map.keys files) (sym (contains_key-keys files (version_name table n)) ∙ is)
 
 -- the greatest version from the current one
-is_greatest : (greatest current : ℕ) (b : Bool) → (greatest == 0) ≡ b → cond b None (Some greatest) ≡ Some current → greatest ≡ current
+pub is_greatest : (greatest current : ℕ) (b : Bool) → (greatest == 0) ≡ b → cond b None (Some greatest) ≡ Some current → greatest ≡ current
 is_greatest greatest current true zero_is e = absurd cc
 is_greatest greatest current false zero_is e = cc
 
