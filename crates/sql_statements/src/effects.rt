@@ -42,7 +42,7 @@ fn merge_effect(
 
 /// What the statement does with a row of its branch.
 #[tactic(auto, unfolding(crate::specs::Effects::effect))]
-fn effect(
+pub fn row_effect(
     alloc: Global,
     sources: &[Source],
     statement: &Statement,
@@ -97,7 +97,7 @@ fn replacements(
     ensures { IfOk result (λ made. made ≡ spec.replacements sources.now statement.now row.now) }
 {
     let mut made = List::new(alloc);
-    match effect(alloc, sources, statement, row)? {
+    match row_effect(alloc, sources, statement, row)? {
         Effect::Keep | Effect::Remove => {}
         Effect::Replace(new) => made.push(new)?,
     }
@@ -116,7 +116,7 @@ fn remains(
     ensures { IfOk result (λ left. left ≡ spec.remains sources.now statement.now row.now) }
 {
     let mut left = List::new(alloc);
-    match effect(alloc, sources, statement, row)? {
+    match row_effect(alloc, sources, statement, row)? {
         Effect::Keep => left.push(copy_row(alloc, row.as_slice())?)?,
         Effect::Remove => {}
         Effect::Replace(new) => left.push(row_of(alloc, new.as_slice())?)?,

@@ -15,8 +15,9 @@ mod runs;
 mod statement;
 mod tables;
 
-pub use clauses::holds;
+pub use clauses::{extended, holds};
 pub use effect::{Effect, NewRow, PlainFault, SqlRefusal};
+pub use effects::row_effect;
 pub use filter::filter_of;
 pub use fits::{are_wide, sources_are_wide};
 pub use laws::{
@@ -25,8 +26,9 @@ pub use laws::{
     order_of_rows_does_not_matter, rows_of_the_columns_are_wide, rows_outside_the_filter_are_kept,
     select_leaves_the_rows_as_they_are, statements_depend_on_the_rows_of_their_filter,
 };
+pub use new_row::row_of;
 pub use plain_types::{List, Text};
-pub use reference::plain;
+pub use reference::{insertions, is_ambiguous, plain, rows_of, value_refusal};
 pub use row_values::{Column, Row, TableSchema, Value};
 pub use runs::{
     a_dropped_branch_is_gone, a_new_branch_copies_main, a_run_goes_on_where_it_stopped,

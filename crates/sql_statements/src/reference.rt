@@ -83,7 +83,8 @@ fn refusal(
     Ok(value_refusal(columns, made.as_slice()))
 }
 
-fn value_refusal(columns: &[Column], made: &[NewRow]) -> Option<SqlRefusal>
+/// Why rows that are made are refused.
+pub fn value_refusal(columns: &[Column], made: &[NewRow]) -> Option<SqlRefusal>
     ensures { result ≡ spec.value_refusal columns.now made.now }
 {
     if any_overflows(columns, made) {
@@ -95,7 +96,8 @@ fn value_refusal(columns: &[Column], made: &[NewRow]) -> Option<SqlRefusal>
     }
 }
 
-fn rows_of(alloc: Global, made: &[NewRow]) -> Result<List<Row>, AllocError>
+/// The new rows, in which nothing overflowed.
+pub fn rows_of(alloc: Global, made: &[NewRow]) -> Result<List<Row>, AllocError>
     ensures { IfOk result (λ rows. rows ≡ map new_rows.row_of made.now) }
 {
     let mut rows = List::new(alloc);
@@ -106,7 +108,7 @@ fn rows_of(alloc: Global, made: &[NewRow]) -> Result<List<Row>, AllocError>
 }
 
 /// The rows that the statement inserts.
-fn insertions(
+pub fn insertions(
     alloc: Global,
     width: usize,
     sources: &[Source],
@@ -178,7 +180,7 @@ fn merge_insertions(
 }
 
 /// Whether two source rows stand for one target row where one must be chosen.
-fn is_ambiguous(
+pub fn is_ambiguous(
     alloc: Global,
     width: usize,
     sources: &[Source],
