@@ -7,6 +7,7 @@
 mod form;
 mod front;
 mod items;
+mod laws;
 mod literal;
 mod raw;
 mod read;
@@ -15,5 +16,9 @@ mod script;
 mod tests;
 mod values;
 
+pub use laws::{
+    scripts_that_were_read_are_short, sessions_that_were_read_have_plain_names,
+    statements_that_were_read_are_of_the_columns,
+};
 pub use read::read_script;
 pub use script::{Script, ScriptFault, SessionItem};
