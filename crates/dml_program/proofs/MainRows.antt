@@ -17,7 +17,7 @@ use Rattle.table_state.specs.declared.live_set.BranchState.TheVariants as state
 use Rattle.table_names.specs.Versions.{version_name, version_of}
 use Rattle.table_state.specs.Files.{bytes_under, version_at, list_at, manifest_at, data_file_at}
 use Rattle.table_state.specs.Live.{is_live, is_data, set_of, entries_at, head_of, snapshot_with, snapshot_at, head_at, without_head, branch_at, data_rows, data_files_of, rows_at, rows_of_branch}
-use Rattle.dml_program.specs.Form.{has_form, is_data_manifest}
+use Rattle.table_form.specs.Form.{has_form, is_data_manifest}
 use Rattle.dml_program.specs.declared.status.TableKind.TheVariants.{NoVersion, Later}
 use Rattle.dml_program.specs.Opening.{Fault, table_rows}
 use Rattle.dml_program.specs.PlainTable.{or_path, if_form, plain_list, plain_manifest, plain_entries, plain_file, plain_rows, plain_snapshot, plain_main, plain_metadata, plain_version}

@@ -8,12 +8,12 @@ use Rattle.store_core.specs.Files.{Files, with_file}
 use Rattle.store_core.specs.Written.{appended, TakesFront}
 use Rattle.command_line.specs.Words.{Wanted, rows, create, command_of}
 use Rattle.table_names.specs.Versions.{version_name}
-use Rattle.value_texts.specs.Records.{records_of}
+use Rattle.run_report.specs.Report.{row_lines}
 use Rattle.dml_program.specs.declared.status.Status.{Status}
 use Rattle.dml_program.specs.declared.status.Status.TheVariants as status
 use Rattle.dml_program.specs.Creating.{first_version_of}
 use Rattle.dml_program.specs.Opening.{Fault, table_rows}
-use Rattle.dml_program.specs.Statuses.{created_lines, fault_lines, row_lines}
+use Rattle.dml_program.specs.Statuses.{created_lines, fault_lines}
 
 -- the lines that are printed and the files that are left, or the status of what is wrong
 pub data Answer : Type 0 where
@@ -22,7 +22,7 @@ pub data Answer : Type 0 where
 
 -- the rows that are printed, or what is wrong with the table
 abbrev pub rows_answer : Files → Result (List (List Value)) Fault → Answer
-rows_answer files (Ok found) = done (row_lines (records_of found)) files
+rows_answer files (Ok found) = done (row_lines found) files
 rows_answer files (Err fault) = refused (status.TableBad fault.0 fault.1)
 
 -- the table that is made, or why not

@@ -17,7 +17,7 @@ use Rattle.dml_program.specs.declared.status.TableKind.TheVariants.{Exists, Late
 use Rattle.dml_program.specs.declared.status.ScriptKind.TheVariants as script
 use Rattle.dml_program.specs.declared.status.Status.{Status}
 use Rattle.dml_program.specs.declared.status.Status.TheVariants as status
-use Rattle.dml_program.specs.Form.{is_plain_column, is_unpartitioned, is_plain_writing}
+use Rattle.table_form.specs.Form.{is_plain_column, is_unpartitioned, is_plain_writing}
 
 -- the bytes of the schema file, where it is not too long
 abbrev pub bytes_given : List ℕ → InputAnswer → Result (Option (List ℕ)) Status

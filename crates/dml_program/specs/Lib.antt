@@ -1,7 +1,6 @@
 pub mod Answers
 pub mod Causes
 pub mod Creating
-pub mod Form
 pub mod Opening
 pub mod PlainTable
 pub mod Statuses

@@ -1,8 +1,7 @@
 -- Statuses: their numbers, and the fault lines that they end a report with.
-use Rattle.std.specs.Prelude.{ℕ, ◌==◌, if◌then◌else◌, codes, List, [], ◌∷◌, ◌++◌}
+use Rattle.std.specs.Prelude.{ℕ, ◌==◌, if◌then◌else◌, codes, List, [], ◌++◌}
 use Rattle.std.specs.Fmt.{decimal}
-use Rattle.std.specs.List.{flat_map}
-use Rattle.report_lines.specs.Escapes.{escaped}
+use Rattle.run_report.specs.Report.{line}
 use Rattle.store_core.specs.declared.store.StoreFault.{StoreFault}
 use Rattle.store_core.specs.declared.store.StoreFault.TheVariants.{Failed, Memory as StoreMemory}
 use Rattle.dml_program.specs.declared.status.TableKind.{TableKind}
@@ -26,18 +25,6 @@ status_number Memory = 9
 abbrev pub status_of_fault : StoreFault → Status
 status_of_fault Failed = StoreFailed
 status_of_fault StoreMemory = Memory
-
--- a line of the report
-abbrev pub line : List ℕ → List ℕ
-line text = escaped text ++ 10 ∷ []
-
--- a row's line, which has its record
-abbrev pub row_line : List ℕ → List ℕ
-row_line text = codes "row " ++ line text
-
--- the lines of records, in order
-abbrev pub row_lines : List (List ℕ) → List ℕ
-row_lines texts = flat_map row_line texts
 
 abbrev pub kind_text : TableKind → List ℕ
 kind_text NoVersion = codes "no-version"

@@ -10,7 +10,6 @@ ghost use Rattle.dml_program.specs.Causes.{HasInputCause, HasStoreCause, IsFormS
 ghost use Rattle.dml_program.specs.Opening.{IsRefusal};
 ghost use Rattle.dml_program.specs.Creating.{Stops, asked_by, bad_file, file_given, first_version_of, has_no_version, if_plain, is_not_compressed, is_plain, may_be_made};
 
-use crate::form::{are_plain_columns, is_plain_writing};
 use crate::report;
 use crate::status::{ScriptKind, Status, TableKind};
 use branch_commit::{SwapAnswer, SwapFault, swap};
@@ -18,6 +17,7 @@ use plain_types::Text;
 use std::alloc::Global;
 use store_core::{Blob, Clock, InputAnswer, Inputs, IoFault, Store};
 use table_definition::{Definition, DefinitionFault, first_text, read_definition};
+use table_form::{are_plain_columns, is_plain_writing};
 use table_names::{compressed_version, current_version, version_name};
 
 /// The most bytes of a script or a schema file.

@@ -3,7 +3,6 @@
 #![tactic(auto)]
 
 mod create;
-mod form;
 mod laws;
 mod open;
 mod report;

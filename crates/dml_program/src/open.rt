@@ -8,17 +8,17 @@ ghost use Rattle.plain_types.specs.Steps.{or_fault};
 ghost use Rattle.std.specs.FinMap as map;
 ghost use Rattle.table_metadata.specs.Metadata.{parts};
 ghost use Rattle.table_state.specs.Live.{is_data, is_live};
-ghost use Rattle.dml_program.specs.Form.{is_data_manifest};
+ghost use Rattle.table_form.specs.Form.{is_data_manifest};
 ghost use Rattle.dml_program.specs.Opening.{IsRefusal, Refuses, RefusesTable, load_status, table_rows};
 ghost use Rattle.dml_program.specs.PlainTable.{if_form, plain_entries, plain_file, plain_list, plain_main, plain_manifest, plain_metadata, plain_rows, plain_snapshot, plain_version};
 
-use crate::form::{are_data_entries, are_data_manifests, has_form};
 use crate::status::{Status, TableKind};
 use manifest_files::{Entry, ManifestRow};
 use plain_types::{List, Text};
 use row_values::Row;
 use std::alloc::Global;
 use store_core::{Blob, ReadAnswer, Store};
+use table_form::{are_data_entries, are_data_manifests, has_form};
 use table_metadata::{Metadata, MetadataFault, Snapshot, read_metadata};
 use table_names::{current_version, version_name};
 use table_state::{

@@ -1,10 +1,11 @@
 // The lines of the report.
-ghost use Rattle.std.specs.Prelude.{◌≡◌, ◌++◌, IfOk, OnOk};
-ghost use Rattle.dml_program.specs.Statuses.{created_lines, fault_lines, kind_text, line, row_line, row_lines, script_text};
+ghost use Rattle.std.specs.Prelude.{◌≡◌, IfOk};
+ghost use Rattle.run_report.specs.Report.{line, row_lines};
+ghost use Rattle.dml_program.specs.Statuses.{created_lines, fault_lines, kind_text, script_text};
 
 use crate::status::{ScriptKind, Status, TableKind};
-use plain_types::Bytes;
-use report_lines::push_escaped;
+use row_values::Row;
+use run_report::{push_line, push_rows};
 use std::alloc::{AllocError, Global};
 
 /// What a status writes of itself.
@@ -83,37 +84,19 @@ fn kind_text(kind: TableKind) -> &'static str
     }
 }
 
-/// The lines of the records.
-pub(crate) fn row_lines(alloc: Global, records: &[Bytes]) -> Result<Vec<u8>, AllocError>
-    ensures { IfOk result (λ lines. lines.items ≡ row_lines records.now) }
+/// The lines of the rows.
+pub(crate) fn row_lines(alloc: Global, rows: &[Row]) -> Result<Vec<u8>, AllocError>
+    ensures { IfOk result (λ lines. lines.items ≡ row_lines rows.now) }
 {
     let mut lines = Vec::new(alloc);
-    for text in records {
-        push_row(&mut lines, text.as_slice())?;
-    }
+    push_rows(alloc, rows, &mut lines)?;
     Ok(lines)
-}
-
-fn push_row(lines: &mut Vec<u8>, text: &[u8]) -> Result<(), AllocError>
-    ensures { OnOk result (lines.new.items ≡ lines.old.items ++ row_line text.now) }
-{
-    lines.extend_from_slice(b"row ")?;
-    push_line(lines, text)
 }
 
 fn line(alloc: Global, text: &str) -> Result<Vec<u8>, AllocError>
     ensures { IfOk result (λ bytes. bytes.items ≡ line text.now) }
 {
     let mut bytes = Vec::new(alloc);
-    push_line(&mut bytes, text.as_bytes())?;
+    push_line(text.as_bytes(), &mut bytes)?;
     Ok(bytes)
-}
-
-// Appends the text as one line, with its line feed.
-fn push_line(lines: &mut Vec<u8>, text: &[u8]) -> Result<(), AllocError>
-    ensures { OnOk result (lines.new.items ≡ lines.old.items ++ line text.now) }
-{
-    push_escaped(lines, text)?;
-    lines.push(b'\n')?;
-    Ok(())
 }

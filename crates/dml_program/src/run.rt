@@ -16,7 +16,6 @@ use crate::status::Status;
 use command_line::{Command, WordsFault, read_words};
 use std::alloc::Global;
 use store_core::{Clock, Inputs, Sink, Store, write_all};
-use value_texts::sorted_records;
 
 /// Carries out the command that the words after the program's name ask for, over a store, with the inputs that it reads
 /// and the time that the clock tells, and writes the report to a sink: the rows of `main`, sorted by the bytes of their
@@ -97,8 +96,7 @@ fn rows<S: Store>(alloc: Global, store: &mut S, table: &str) -> Result<Vec<u8>, 
     ensures quiet { OnOk result (S.faults store.new ≡ S.faults store.old) }
 {
     let rows = table_rows(alloc, store, table)?;
-    let records = sorted_records(alloc, rows.as_slice())?;
-    Ok(report::row_lines(alloc, records.as_slice())?)
+    Ok(report::row_lines(alloc, rows.as_slice())?)
 }
 
 // Writes the lines that a command prints.

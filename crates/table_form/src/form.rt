@@ -4,7 +4,7 @@ ghost use Rattle.std.specs.List.{list_all};
 ghost use Rattle.table_metadata.specs.Metadata.{parts};
 ghost use Rattle.table_state.specs.Live.{is_data, is_data_content};
 ghost use Rattle.table_metadata.specs.References.{is_main};
-ghost use Rattle.dml_program.specs.Form.{has_form, is_data_manifest, is_data_manifest_content, is_plain_column, is_plain_kind, is_plain_mode, is_plain_schema, is_plain_writing, is_unpartitioned, is_within_limits};
+ghost use Rattle.table_form.specs.Form.{has_form, is_data_manifest, is_data_manifest_content, is_plain_column, is_plain_kind, is_plain_mode, is_plain_schema, is_plain_table, is_plain_writing, is_unpartitioned, is_within_limits};
 
 use manifest_files::{Content, Entry, ManifestContent, ManifestRow};
 use row_values::{Column, Kind, Spec, TableSchema};
@@ -18,11 +18,16 @@ const SEQUENCE_END: i64 = 1 << 62;
 const LONGEST_LOCATION: usize = 4096;
 
 /// Whether a version of a table is of the form that is read so far.
-pub(crate) fn has_form(version: u32, metadata: &Metadata) -> bool
+pub fn has_form(version: u32, metadata: &Metadata) -> bool
     ensures { result ≡ has_form version (parts metadata.now) }
 {
-    is_within_limits(version, metadata)
-        && are_plain_schemas(metadata.current_schema, metadata.schemas.as_slice())
+    is_within_limits(version, metadata) && is_plain_table(metadata)
+}
+
+fn is_plain_table(metadata: &Metadata) -> bool
+    ensures { result ≡ is_plain_table (parts metadata.now) }
+{
+    are_plain_schemas(metadata.current_schema, metadata.schemas.as_slice())
         && are_unpartitioned(metadata.specs.as_slice())
         && is_plain_writing(&metadata.properties)
         && are_main(metadata.refs.as_slice())
@@ -51,7 +56,7 @@ fn is_plain_schema(current: i32, schema: &TableSchema) -> bool
 }
 
 /// Whether all the columns are of a kind that is read so far.
-pub(crate) fn are_plain_columns(columns: &[Column]) -> bool
+pub fn are_plain_columns(columns: &[Column]) -> bool
     ensures { result ≡ list_all is_plain_column columns.now }
 {
     columns.iter().all(|column| is_plain_kind(column.kind))
@@ -70,7 +75,7 @@ fn are_unpartitioned(specs: &[Spec]) -> bool
 }
 
 /// Whether every property of writes is at its default.
-pub(crate) fn is_plain_writing(properties: &Properties) -> bool
+pub fn is_plain_writing(properties: &Properties) -> bool
     ensures { result ≡ is_plain_writing properties.now }
 {
     is_plain_mode(&properties.delete)
@@ -94,7 +99,7 @@ fn are_main(refs: &[RefItem]) -> bool
 }
 
 /// Whether all the manifests hold data files.
-pub(crate) fn are_data_manifests(rows: &[ManifestRow]) -> bool
+pub fn are_data_manifests(rows: &[ManifestRow]) -> bool
     ensures { result ≡ list_all is_data_manifest rows.now }
 {
     rows.iter().all(|row| is_data_manifest(row.content))
@@ -107,7 +112,7 @@ fn is_data_manifest(content: ManifestContent) -> bool
 }
 
 /// Whether all the entries are of data files.
-pub(crate) fn are_data_entries(entries: &[Entry]) -> bool
+pub fn are_data_entries(entries: &[Entry]) -> bool
     ensures { result ≡ list_all is_data entries.now }
 {
     entries.iter().all(|entry| is_data(entry.content))

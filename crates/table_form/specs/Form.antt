@@ -43,9 +43,12 @@ is_plain_writing p = is_plain_mode p.delete && is_plain_mode p.update && is_plai
 abbrev pub is_within_limits : ℕ → Parts → Bool
 is_within_limits version p = nat_lt version (2 ^ 31) && int_lt p.last_sequence (pos (2 ^ 62)) && nat_le (length p.location) 4096
 
+-- what a commit leaves as it is
+abbrev pub is_plain_table : Parts → Bool
+is_plain_table p = list_all (is_plain_schema p.current_schema) p.schemas && (list_all is_unpartitioned p.specs && (is_plain_writing p.properties && list_all is_main p.refs))
+
 abbrev pub has_form : ℕ → Parts → Bool
-has_form version p =
-    is_within_limits version p && list_all (is_plain_schema p.current_schema) p.schemas && list_all is_unpartitioned p.specs && is_plain_writing p.properties && list_all is_main p.refs
+has_form version p = is_within_limits version p && is_plain_table p
 
 -- ---- manifests
 

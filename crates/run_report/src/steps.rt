@@ -1,0 +1,111 @@
+// The lines of steps and of branches.
+ghost use Rattle.std.specs.Prelude.{◌≡◌, ◌++◌, OnOk};
+ghost use Rattle.run_report.specs.Report.{ended, lines_of_answer, lines_of_branch, lines_of_event, lines_of_step, lines_of_steps, name_of, rows_under};
+
+use crate::rows::push_rows;
+use plain_types::Text;
+use report_lines::{Answer, Event, Stepped, answer_line, branch_line, event_line};
+use std::alloc::{AllocError, Global};
+
+/// Appends the lines of a step of a session, whose name stands at its number among the names.
+pub fn push_step(
+    alloc: Global,
+    names: &[Text],
+    step: &Stepped,
+    out: &mut Vec<u8>,
+) -> Result<(), AllocError>
+    ensures { OnOk result (out.new.items ≡ out.old.items ++ lines_of_step names.now step.now) }
+{
+    let Some(event) = &step.event else {
+        return Ok(());
+    };
+    let session = name_of(names, event.session);
+    push_event(alloc, session, event, out)?;
+    match &step.answer {
+        Some(answer) => push_answer(alloc, session, event.statement, answer, out),
+        None => Ok(()),
+    }
+}
+
+/// Appends the lines of the steps, one after another.
+pub fn push_steps(
+    alloc: Global,
+    names: &[Text],
+    steps: &[Stepped],
+    out: &mut Vec<u8>,
+) -> Result<(), AllocError>
+    ensures { OnOk result (out.new.items ≡ out.old.items ++ lines_of_steps names.now steps.now) }
+{
+    for step in steps {
+        push_step(alloc, names, step, out)?;
+    }
+    Ok(())
+}
+
+/// Appends the line of a branch with so many rows.
+pub fn push_branch(
+    alloc: Global,
+    name: &str,
+    rows: usize,
+    out: &mut Vec<u8>,
+) -> Result<(), AllocError>
+    ensures { OnOk result (out.new.items ≡ out.old.items ++ lines_of_branch name.now rows) }
+{
+    let text = branch_line(alloc, name, rows as u64)?;
+    push_ended(text.as_bytes(), out)
+}
+
+// The name of the session of this number, which is empty where no name stands at it.
+fn name_of(names: &[Text], session: usize) -> &str
+    ensures { result.now ≡ name_of names.now session }
+{
+    match names.get(session) {
+        Some(name) => name.as_str(),
+        None => "",
+    }
+}
+
+fn push_event(
+    alloc: Global,
+    session: &str,
+    event: &Event,
+    out: &mut Vec<u8>,
+) -> Result<(), AllocError>
+    ensures { OnOk result (out.new.items ≡ out.old.items ++ lines_of_event session.now event.now) }
+{
+    let text = event_line(alloc, session, event)?;
+    push_ended(text.as_bytes(), out)
+}
+
+fn push_answer(
+    alloc: Global,
+    session: &str,
+    statement: usize,
+    answer: &Answer,
+    out: &mut Vec<u8>,
+) -> Result<(), AllocError>
+    ensures { OnOk result (out.new.items ≡ out.old.items ++ lines_of_answer session.now statement answer.now) }
+{
+    let text = answer_line(alloc, session, statement, answer)?;
+    push_ended(text.as_bytes(), out)?;
+    push_rows_under(alloc, answer, out)
+}
+
+// Appends the rows that the answer brings.
+fn push_rows_under(alloc: Global, answer: &Answer, out: &mut Vec<u8>) -> Result<(), AllocError>
+    ensures { OnOk result (out.new.items ≡ out.old.items ++ rows_under answer.now) }
+{
+    match answer {
+        Answer::Selected(rows) => push_rows(alloc, rows.as_slice(), out),
+        _ => Ok(()),
+    }
+}
+
+// Appends a line, in which no line feed stands, with the one that ends it.
+fn push_ended(text: &[u8], out: &mut Vec<u8>) -> Result<(), AllocError>
+    ensures { OnOk result (out.new.items ≡ out.old.items ++ ended text.now) }
+{
+    out.extend_from_slice(text)?;
+    out.push(b'\n')?;
+    Ok(())
+}
