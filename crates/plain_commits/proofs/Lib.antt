@@ -1,0 +1,4 @@
+pub mod Adding
+pub mod Numbers
+pub mod PlainForm
+pub mod Rewriting
