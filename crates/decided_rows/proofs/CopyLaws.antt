@@ -1,5 +1,5 @@
 -- Copy-on-write by the decisions of a statement leaves the rows that the statement leaves.
-use Rattle.std.proofs.Common.{◌≡◌, ℕ, ◌+◌, ◌⊎◌, ⊎_elim, ◌&&◌, ◌||◌, not, Bool, true, false, cond, List, [], ◌∷◌, ◌++◌, append_assoc, append-nil, map, filter, flat_map, take, drop, Ok, refl, sym, ap, ◌∙◌, subst, inl, inr, arith}
+use Rattle.std.proofs.Common.{◌≡◌, ℕ, ◌+◌, ◌⊎◌, ⊎_elim, ◌&&◌, ◌||◌, not, Bool, true, false, cond, List, [], ◌∷◌, ◌++◌, append_assoc, append-nil, map, filter, flat_map, take, drop, length, Ok, refl, sym, ap, ◌∙◌, subst, inl, inr, arith, IsTrue}
 use Rattle.std.specs.Prelude.{if◌then◌else◌}
 use Rattle.std.specs.List.{list_any}
 use Rattle.std.proofs.lemmas.Bool.{or_left, or_right}
@@ -11,9 +11,12 @@ use Rattle.plain_types.specs.Steps.{◌>>=◌}
 use Rattle.plain_types.proofs.BagLaws.{In-append, In-append_left, In-append_right, In-filter, In-flat_map_from, SameBag-list_any, total-append, total-filter, total-flat_map, total-plus, total-weights, total-zero}
 use Rattle.row_values.specs.declared.value.Value.{Value}
 use Rattle.sql_predicates.specs.declared.pred.Pred.{Pred}
+use Rattle.sql_statements.specs.declared.effect.Effect.TheVariants as effects
 use Rattle.sql_statements.specs.declared.statement.Source.{Source}
 use Rattle.sql_statements.specs.declared.statement.Statement.{Statement}
-use Rattle.sql_statements.specs.Effects.{insertions, remains, rows_after}
+use Rattle.sql_statements.specs.Clauses.{holds_on}
+use Rattle.sql_statements.specs.Effects.{effect, insertions, remains, rows_after}
+use Rattle.sql_statements.specs.Fits.{are_wide}
 use Rattle.sql_statements.specs.NewRows.{row_of as row_made}
 use Rattle.store_core.specs.Files.{Files}
 use Rattle.avro_rows.proofs.Stepwise.{one_value, two_steps}
@@ -29,8 +32,9 @@ use Rattle.table_scan.specs.Parting.{IsParted, entry_of}
 use Rattle.table_scan.specs.Scanning.{file_at, files_at, has_hit, in_path_order, place_of, rows_from, scanned_at, with_file, with_rows}
 use Rattle.table_scan.proofs.RowLaws.{rows_stay}
 use Rattle.cow_writer.specs.Deciding.{copied_of, removed_of, written_of}
-use Rattle.decided_rows.specs.Decisions.{KeepsMisses, decision_for, decisions_of, hit_rows}
-use Rattle.decided_rows.proofs.FileDecisions.{AreMarked, changes, changes_file, copied_is, file_stays, left_in, removed_is, unchanged}
+use Rattle.decided_rows.specs.Decisions.{decision_for, decisions_of, hit_rows}
+use Rattle.decided_rows.proofs.FileDecisions.{KeepsMissed, changes, changes_file, copied_is, file_stays, left_in, removed_is, unchanged}
+use Rattle.decided_rows.proofs.WidthLaws.{wide_parts}
 
 -- ---- tests of lists
 
@@ -84,16 +88,20 @@ in_order ordered [] one there = inl there
 in_order ordered (file ∷ files) one there =
     ⊎_elim (λ placed. ⊎_elim (λ same. inr (inl same)) (λ old. inl old) (in_one file ordered one placed)) (λ later. inr (inr later)) (in_order (with_file file ordered) files one there)
 
-marked_from : (pred : Pred) (at : ℕ) (rows : List (List Value)) → AreMarked pred (rows_from pred at rows)
-marked_from pred at [] = tt
-marked_from pred at (row ∷ rows) = (refl, marked_from pred (at + 1) rows)
+-- the statement keeps each of these rows of which the filter is not True
+abbrev KeepsOutside : Pred → List Source → Statement → List (List Value) → Type 0
+KeepsOutside pred sources s rows = (row : List Value) → In row rows → holds_on pred row ≡ false → effect sources s row ≡ effects.Keep
+
+kept_from : (pred : Pred) (sources : List Source) (s : Statement) (at : ℕ) (rows : List (List Value)) → KeepsOutside pred sources s rows → KeepsMissed sources s (rows_from pred at rows)
+kept_from pred sources s at [] keeps = tt
+kept_from pred sources s at (row ∷ rows) keeps = (keeps row (inl refl), kept_from pred sources s (at + 1) rows (λ one there. keeps one (inr there)))
 
 module _ (table : List ℕ) (parts : Parts) (pred : Pred) (files : Files) where
   -- the file has the rows that stand at its path
-  abbrev IsRead : ScannedFile → Type 0
+  abbrev pub IsRead : ScannedFile → Type 0
   IsRead file = (rows : List (List Value)) × (data_file_at table parts file.entry.path files ≡ Ok rows) × (file ≡ with_rows pred file.entry rows)
 
-  abbrev AreRead : List ScannedFile → Type 0
+  abbrev pub AreRead : List ScannedFile → Type 0
   AreRead read = (file : ScannedFile) → In file read → IsRead file
 
   is_read : (entry : Entry) (file : ScannedFile) → file_at table parts pred entry files ≡ Ok file → IsRead file
@@ -116,8 +124,8 @@ module _ (table : List ℕ) (parts : Parts) (pred : Pred) (files : Files) where
       let s = two_steps (file_at table parts pred entry files) (λ file. files_at table parts pred (earlier ++ file ∷ []) entries files) all e in
       are_read (earlier ++ s.0 ∷ []) entries all s.2 (one_more earlier s.0 are (is_read entry s.0 s.1))
 
-  marked_read : (file : ScannedFile) → IsRead file → AreMarked pred file.rows
-  marked_read file (rows, at, is) = subst (λ (one : ScannedFile). AreMarked pred one.rows) (sym is) (marked_from pred 0 rows)
+  kept_read : (sources : List Source) (s : Statement) (file : ScannedFile) → IsRead file → KeepsOutside pred sources s (rows_in file) → KeepsMissed sources s file.rows
+  kept_read sources s file (rows, at, is) keeps = subst (λ (one : ScannedFile). KeepsMissed sources s one.rows) (sym is) (kept_from pred sources s 0 rows (subst (KeepsOutside pred sources s) (ap rows_in is ∙ rows_stay pred rows) keeps))
 
   own_rows : (file : ScannedFile) → IsRead file → data_file_at table parts file.entry.path files ≡ Ok (rows_in file)
   own_rows file (rows, at, is) = at ∙ ap Ok (sym (ap rows_in is ∙ rows_stay pred rows))
@@ -137,6 +145,13 @@ module _ (table : List ℕ) (parts : Parts) (pred : Pred) (files : Files) where
   scanned_are_read : (all scanned : List ScannedFile) → AreRead all → in_path_order [] (filter has_hit all) ≡ scanned → AreRead scanned
   scanned_are_read all scanned are ordered one there =
       ⊎_elim (λ none. absurd none) (λ within. are one (In-filter one has_hit all within).0) (in_order [] (filter has_hit all) one (subst (In one) (sym ordered) there))
+
+  -- the files of a scan have the rows that stand at their paths
+  pub scan_is_read : (entries : List Entry) (scanned : List ScannedFile) → scanned_at table parts pred entries files ≡ Ok scanned → AreRead scanned
+  scan_is_read entries scanned is =
+      let t = two_steps (files_at table parts pred [] entries files) (λ all. Ok (in_path_order [] (filter has_hit all))) scanned is in
+      let ordered : in_path_order [] (filter has_hit t.0) ≡ scanned = cc in
+      scanned_are_read t.0 scanned (are_read [] entries t.0 t.1 (λ file there. absurd there)) ordered
 
 -- ---- what is left
 
@@ -229,12 +244,12 @@ module _ (itself : (entry : Entry) → same_file entry entry ≡ true) (paths : 
     abbrev Leaves : ℕ → List Entry → List ScannedFile → List (List Value) → Type 0
     Leaves width entries scanned rows = (rest : List (List Value)) × (data_rows table parts [] (without (removed_of scanned (decisions_of sources s width scanned rows).rows) entries) files ≡ Ok rest) × SameBag (rest ++ written_of scanned (decisions_of sources s width scanned rows)) (rows_after width sources s rows)
 
-    of_files : (keeps : KeepsMisses pred sources s) (width : ℕ) (all scanned others : List ScannedFile) → SameBag all (scanned ++ others) → others_missed sources s others → AreRead table parts pred files all → AreRead table parts pred files scanned → Leaves width (map entry_of all) scanned (rows_in_all all)
-    of_files keeps width all scanned others parted missed are read =
-        let marked = λ (file : ScannedFile) (there : In file scanned). marked_read table parts pred files file (read file there) in
+    of_files : (width : ℕ) (all scanned others : List ScannedFile) → SameBag all (scanned ++ others) → others_missed sources s others → AreRead table parts pred files all → AreRead table parts pred files scanned → KeepsOutside pred sources s (rows_in_all scanned) → Leaves width (map entry_of all) scanned (rows_in_all all)
+    of_files width all scanned others parted missed are read keeps =
+        let kept = λ (file : ScannedFile) (there : In file scanned). kept_read table parts pred files sources s file (read file there) (λ row within. keeps row (In-flat_map_from row file rows_in scanned there within)) in
         let stays : ScannedFile → Bool = λ file. not (changes_file sources s file) in
-        let removed : removed_of scanned (map (decision_for sources s) (hit_rows scanned)) ≡ map entry_of (filter (changes_file sources s) scanned) = removed_is sources s pred keeps scanned marked in
-        let copied : copied_of scanned (map (decision_for sources s) (hit_rows scanned)) ≡ flat_map (left_in sources s) (filter (changes_file sources s) scanned) = copied_is sources s pred keeps scanned marked in
+        let removed : removed_of scanned (map (decision_for sources s) (hit_rows scanned)) ≡ map entry_of (filter (changes_file sources s) scanned) = removed_is sources s scanned kept in
+        let copied : copied_of scanned (map (decision_for sources s) (hit_rows scanned)) ≡ flat_map (left_in sources s) (filter (changes_file sources s) scanned) = copied_is sources s scanned kept in
         let left = left_entries (map entry_of (filter (changes_file sources s) scanned)) stays all (λ file there. among_changed all scanned others parted missed are file there ∙ not_not (changes_file sources s file)) in
         let rest = rows_in_all (filter stays all) in (
           rest,
@@ -254,16 +269,20 @@ module _ (itself : (entry : Entry) → same_file entry entry ≡ true) (paths : 
               ),
         )
 
-    pub leaves : (entries : List Entry) (scanned : List ScannedFile) (width : ℕ) (rows : List (List Value)) → IsParted table parts pred entries files scanned → scanned_at table parts pred entries files ≡ Ok scanned → data_rows table parts [] entries files ≡ Ok rows → KeepsMisses pred sources s → Leaves width entries scanned rows
-    leaves entries scanned width rows p is found keeps =
+    pub leaves : (entries : List Entry) (scanned : List ScannedFile) (width : ℕ) (rows : List (List Value)) → IsParted table parts pred entries files scanned → scanned_at table parts pred entries files ≡ Ok scanned → data_rows table parts [] entries files ≡ Ok rows
+        → ((row : List Value) → length row ≡ width → holds_on pred row ≡ false → effect sources s row ≡ effects.Keep) → IsTrue (are_wide width rows) → Leaves width entries scanned rows
+    leaves entries scanned width rows p is found outside wide =
         let t = two_steps (files_at table parts pred [] entries files) (λ all. Ok (in_path_order [] (filter has_hit all))) scanned is in
         let same : t.0 ≡ p.all = one_value t.0 p.all (files_at table parts pred [] entries files) t.1 p.read in
-        let ordered : in_path_order [] (filter has_hit t.0) ≡ scanned = cc in
         let are : AreRead table parts pred files t.0 = are_read table parts pred files [] entries t.0 t.1 (λ file there. absurd there) in
-        let missed : others_missed sources s p.others = λ file there. none_any (changes sources s) (rows_in file) (λ row within. unchanged sources s row (keeps row (p.missed row (In-flat_map_from row file rows_in p.others there within)))) in
+        let all_rows : rows_in_all t.0 ≡ rows = ap rows_in_all same ∙ one_value (rows_in_all p.all) rows (data_rows table parts [] entries files) p.of_rows found in
+        let bags = subst (λ (found : List (List Value)). SameBag found (rows_in_all scanned ++ rows_in_all p.others)) (one_value (rows_in_all p.all) rows (data_rows table parts [] entries files) p.of_rows found) p.rows_parted in
+        let parts_wide = wide_parts width rows (rows_in_all scanned) (rows_in_all p.others) bags wide in
+        let left_out : (row : List Value) → In row (rows_in_all p.others) → changes sources s row ≡ false = λ row among. unchanged sources s row (outside row (parts_wide.1 row among) (p.missed row among)) in
+        let missed : others_missed sources s p.others = λ file there. none_any (changes sources s) (rows_in file) (λ row within. left_out row (In-flat_map_from row file rows_in p.others there within)) in
         let parted : SameBag t.0 (scanned ++ p.others) = subst (λ (one : List ScannedFile). SameBag one (scanned ++ p.others)) (sym same) p.parted in
         let whole : map entry_of t.0 ≡ entries = ap (map entry_of) same ∙ p.of_entries in
-        let all_rows : rows_in_all t.0 ≡ rows = ap rows_in_all same ∙ one_value (rows_in_all p.all) rows (data_rows table parts [] entries files) p.of_rows found in
         subst (λ (one : List (List Value)). Leaves width entries scanned one) all_rows
         (subst (λ (one : List Entry). Leaves width one scanned (rows_in_all t.0)) whole
-        (of_files keeps width t.0 scanned p.others parted missed are (scanned_are_read table parts pred files t.0 scanned are ordered)))
+        (of_files width t.0 scanned p.others parted missed are (scan_is_read table parts pred files entries scanned is)
+        (λ row there. outside row (parts_wide.0 row there))))

@@ -6,12 +6,10 @@ use Rattle.std.proofs.lemmas.Bool.{or_parts}
 use Rattle.std.proofs.lemmas.List.{map-append}
 use Rattle.plain_types.specs.Bags.{In}
 use Rattle.row_values.specs.declared.value.Value.{Value}
-use Rattle.sql_predicates.specs.declared.pred.Pred.{Pred}
 use Rattle.sql_statements.specs.declared.effect.Effect.{Effect}
 use Rattle.sql_statements.specs.declared.effect.Effect.TheVariants as effects
 use Rattle.sql_statements.specs.declared.statement.Source.{Source}
 use Rattle.sql_statements.specs.declared.statement.Statement.{Statement}
-use Rattle.sql_statements.specs.Clauses.{holds_on}
 use Rattle.sql_statements.specs.Effects.{effect, remaining, remains}
 use Rattle.manifest_files.specs.declared.entry.Entry.{Entry}
 use Rattle.change_sets.specs.declared.scanned.Decision.{Decision}
@@ -21,12 +19,7 @@ use Rattle.change_sets.specs.Scanned.{row_of, rows_in}
 use Rattle.table_scan.specs.Parting.{entry_of}
 use Rattle.table_scan.specs.Scanning.{is_hit}
 use Rattle.cow_writer.specs.Deciding.{copied_of, hits, is_touched, later_of, left_by, own_of, removed_of, rows_left, touches}
-use Rattle.decided_rows.specs.Decisions.{KeepsMisses, decision_by, decision_for, hit_in, hit_rows}
-
--- each row is marked as the filter says
-abbrev pub AreMarked : Pred → List LiveRow → Type 0
-AreMarked pred [] = Unit {0}
-AreMarked pred (live ∷ rows) = (live.hit ≡ holds_on pred live.row) × AreMarked pred rows
+use Rattle.decided_rows.specs.Decisions.{decision_by, decision_for, hit_in, hit_rows}
 
 -- a list's front and what is behind it
 front : {X : Type 0} (xs ys : List X) → take (length xs) (xs ++ ys) ≡ xs
@@ -105,74 +98,75 @@ module _ (sources : List Source) (s : Statement) where
       by true e = ap suc e
       by false e = e
 
-  module _ (pred : Pred) (keeps : KeepsMisses pred sources s) where
-    missed : (live : LiveRow) → live.hit ≡ holds_on pred live.row → live.hit ≡ false → effect sources s live.row ≡ effects.Keep
-    missed live marked unhit = keeps live.row (sym marked ∙ unhit)
+  -- the statement keeps each row that is not hit
+  abbrev pub KeepsMissed : List LiveRow → Type 0
+  KeepsMissed [] = Unit {0}
+  KeepsMissed (live ∷ rows) = (live.hit ≡ false → effect sources s live.row ≡ effects.Keep) × KeepsMissed rows
 
-    touched_is : (rows : List LiveRow) → AreMarked pred rows → is_touched (decisions_on rows) ≡ list_any changes (map row_of rows)
-    touched_is [] marked = refl
-    touched_is (live ∷ rows) (marked, are) = by live.hit refl (touched_is rows are)
-      where
-        by : (b : Bool) → live.hit ≡ b → is_touched (decisions_on rows) ≡ list_any changes (map row_of rows) → is_touched (taken live rows b) ≡ (changes live.row || list_any changes (map row_of rows))
-        by true is e = ap (λ b. changes live.row || b) e
-        by false is e = e ∙ sym (ap (λ b. b || list_any changes (map row_of rows)) (unchanged live.row (missed live marked is)))
+  touched_is : (rows : List LiveRow) → KeepsMissed rows → is_touched (decisions_on rows) ≡ list_any changes (map row_of rows)
+  touched_is [] keeps = refl
+  touched_is (live ∷ rows) (keeps, are) = by live.hit refl (touched_is rows are)
+    where
+      by : (b : Bool) → live.hit ≡ b → is_touched (decisions_on rows) ≡ list_any changes (map row_of rows) → is_touched (taken live rows b) ≡ (changes live.row || list_any changes (map row_of rows))
+      by true is e = ap (λ b. changes live.row || b) e
+      by false is e = e ∙ sym (ap (λ b. b || list_any changes (map row_of rows)) (unchanged live.row (keeps is)))
 
-    left_is : (rows : List LiveRow) → AreMarked pred rows → rows_left rows (decisions_on rows) ≡ flat_map (remains sources s) (map row_of rows)
-    unfolding rows_left
-    left_is [] marked = refl
-    left_is (live ∷ rows) (marked, are) = by live.hit refl (left_is rows are)
-      where
-        by : (b : Bool) → live.hit ≡ b → rows_left rows (decisions_on rows) ≡ flat_map (remains sources s) (map row_of rows) → left_by (if b then slice_get (taken live rows b) 0 else None) live.row ++ rows_left rows (if b then drop 1 (taken live rows b) else taken live rows b) ≡ remains sources s live.row ++ flat_map (remains sources s) (map row_of rows)
-        by true is e = ap (λ (found : List (List Value)). found ++ rows_left rows (decisions_on rows)) (is_left live.row) ∙ ap (λ (more : List (List Value)). remains sources s live.row ++ more) e
-        by false is e = ap (λ (more : List (List Value)). live.row ∷ more) e ∙ sym (ap (λ (found : List (List Value)). found ++ flat_map (remains sources s) (map row_of rows)) (stays live.row (missed live marked is)))
+  left_is : (rows : List LiveRow) → KeepsMissed rows → rows_left rows (decisions_on rows) ≡ flat_map (remains sources s) (map row_of rows)
+  unfolding rows_left
+  left_is [] keeps = refl
+  left_is (live ∷ rows) (keeps, are) = by live.hit refl (left_is rows are)
+    where
+      by : (b : Bool) → live.hit ≡ b → rows_left rows (decisions_on rows) ≡ flat_map (remains sources s) (map row_of rows) → left_by (if b then slice_get (taken live rows b) 0 else None) live.row ++ rows_left rows (if b then drop 1 (taken live rows b) else taken live rows b) ≡ remains sources s live.row ++ flat_map (remains sources s) (map row_of rows)
+      by true is e = ap (λ (found : List (List Value)). found ++ rows_left rows (decisions_on rows)) (is_left live.row) ∙ ap (λ (more : List (List Value)). remains sources s live.row ++ more) e
+      by false is e = ap (λ (more : List (List Value)). live.row ∷ more) e ∙ sym (ap (λ (found : List (List Value)). found ++ flat_map (remains sources s) (map row_of rows)) (stays live.row (keeps is)))
 
-    -- ---- the files
+  -- ---- the files
 
-    abbrev AreMarkedFiles : List ScannedFile → Type 0
-    AreMarkedFiles files = (file : ScannedFile) → In file files → AreMarked pred file.rows
+  abbrev KeepsMissedFiles : List ScannedFile → Type 0
+  KeepsMissedFiles files = (file : ScannedFile) → In file files → KeepsMissed file.rows
 
-    abbrev decisions_in : List ScannedFile → List Decision
-    decisions_in files = map (decision_for sources s) (hit_rows files)
+  abbrev decisions_in : List ScannedFile → List Decision
+  decisions_in files = map (decision_for sources s) (hit_rows files)
 
-    own_is : (file : ScannedFile) (files : List ScannedFile) → own_of file (decisions_in (file ∷ files)) ≡ decisions_on file.rows
-    own_is file files =
-        ap (take (hits file.rows)) (map-append (decision_for sources s) (hit_in file) (hit_rows files))
-        ∙ ap (λ n. take n (decisions_on file.rows ++ decisions_in files)) (counted file.rows)
-        ∙ front (decisions_on file.rows) (decisions_in files)
+  own_is : (file : ScannedFile) (files : List ScannedFile) → own_of file (decisions_in (file ∷ files)) ≡ decisions_on file.rows
+  own_is file files =
+      ap (take (hits file.rows)) (map-append (decision_for sources s) (hit_in file) (hit_rows files))
+      ∙ ap (λ n. take n (decisions_on file.rows ++ decisions_in files)) (counted file.rows)
+      ∙ front (decisions_on file.rows) (decisions_in files)
 
-    later_is : (file : ScannedFile) (files : List ScannedFile) → later_of file (decisions_in (file ∷ files)) ≡ decisions_in files
-    later_is file files =
-        ap (drop (hits file.rows)) (map-append (decision_for sources s) (hit_in file) (hit_rows files))
-        ∙ ap (λ n. drop n (decisions_on file.rows ++ decisions_in files)) (counted file.rows)
-        ∙ behind (decisions_on file.rows) (decisions_in files)
+  later_is : (file : ScannedFile) (files : List ScannedFile) → later_of file (decisions_in (file ∷ files)) ≡ decisions_in files
+  later_is file files =
+      ap (drop (hits file.rows)) (map-append (decision_for sources s) (hit_in file) (hit_rows files))
+      ∙ ap (λ n. drop n (decisions_on file.rows ++ decisions_in files)) (counted file.rows)
+      ∙ behind (decisions_on file.rows) (decisions_in files)
 
-    -- the files that are removed are those that the statement changes
-    pub removed_is : (files : List ScannedFile) → AreMarkedFiles files → removed_of files (decisions_in files) ≡ map entry_of (filter changes_file files)
-    unfolding removed_of
-    removed_is [] marked = refl
-    removed_is (file ∷ files) marked =
-        ap (λ own. if is_touched own then file.entry ∷ removed_of files (later_of file (decisions_in (file ∷ files))) else removed_of files (later_of file (decisions_in (file ∷ files)))) (own_is file files)
-        ∙ ap (λ b. if b then file.entry ∷ removed_of files (later_of file (decisions_in (file ∷ files))) else removed_of files (later_of file (decisions_in (file ∷ files)))) (touched_is file.rows (marked file (inl refl)))
-        ∙ ap (λ later. if changes_file file then file.entry ∷ removed_of files later else removed_of files later) (later_is file files)
-        ∙ ap (λ (more : List Entry). if changes_file file then file.entry ∷ more else more) (removed_is files (λ one there. marked one (inr there)))
-        ∙ by (changes_file file) (filter changes_file files)
-      where
-        by : (b : Bool) (more : List ScannedFile) → (if b then file.entry ∷ map entry_of more else map entry_of more) ≡ map entry_of (cond b (file ∷ more) more)
-        by true more = refl
-        by false more = refl
+  -- the files that are removed are those that the statement changes
+  pub removed_is : (files : List ScannedFile) → KeepsMissedFiles files → removed_of files (decisions_in files) ≡ map entry_of (filter changes_file files)
+  unfolding removed_of
+  removed_is [] keeps = refl
+  removed_is (file ∷ files) keeps =
+      ap (λ own. if is_touched own then file.entry ∷ removed_of files (later_of file (decisions_in (file ∷ files))) else removed_of files (later_of file (decisions_in (file ∷ files)))) (own_is file files)
+      ∙ ap (λ b. if b then file.entry ∷ removed_of files (later_of file (decisions_in (file ∷ files))) else removed_of files (later_of file (decisions_in (file ∷ files)))) (touched_is file.rows (keeps file (inl refl)))
+      ∙ ap (λ later. if changes_file file then file.entry ∷ removed_of files later else removed_of files later) (later_is file files)
+      ∙ ap (λ (more : List Entry). if changes_file file then file.entry ∷ more else more) (removed_is files (λ one there. keeps one (inr there)))
+      ∙ by (changes_file file) (filter changes_file files)
+    where
+      by : (b : Bool) (more : List ScannedFile) → (if b then file.entry ∷ map entry_of more else map entry_of more) ≡ map entry_of (cond b (file ∷ more) more)
+      by true more = refl
+      by false more = refl
 
-    -- and what is copied is what is left of them
-    pub copied_is : (files : List ScannedFile) → AreMarkedFiles files → copied_of files (decisions_in files) ≡ flat_map left_in (filter changes_file files)
-    unfolding copied_of
-    copied_is [] marked = refl
-    copied_is (file ∷ files) marked =
-        ap (λ own. if is_touched own then rows_left file.rows own ++ copied_of files (later_of file (decisions_in (file ∷ files))) else copied_of files (later_of file (decisions_in (file ∷ files)))) (own_is file files)
-        ∙ ap (λ b. if b then rows_left file.rows (decisions_on file.rows) ++ copied_of files (later_of file (decisions_in (file ∷ files))) else copied_of files (later_of file (decisions_in (file ∷ files)))) (touched_is file.rows (marked file (inl refl)))
-        ∙ ap (λ (found : List (List Value)). if changes_file file then found ++ copied_of files (later_of file (decisions_in (file ∷ files))) else copied_of files (later_of file (decisions_in (file ∷ files)))) (left_is file.rows (marked file (inl refl)))
-        ∙ ap (λ later. if changes_file file then left_in file ++ copied_of files later else copied_of files later) (later_is file files)
-        ∙ ap (λ (more : List (List Value)). if changes_file file then left_in file ++ more else more) (copied_is files (λ one there. marked one (inr there)))
-        ∙ by (changes_file file) (filter changes_file files)
-      where
-        by : (b : Bool) (more : List ScannedFile) → (if b then left_in file ++ flat_map left_in more else flat_map left_in more) ≡ flat_map left_in (cond b (file ∷ more) more)
-        by true more = refl
-        by false more = refl
+  -- and what is copied is what is left of them
+  pub copied_is : (files : List ScannedFile) → KeepsMissedFiles files → copied_of files (decisions_in files) ≡ flat_map left_in (filter changes_file files)
+  unfolding copied_of
+  copied_is [] keeps = refl
+  copied_is (file ∷ files) keeps =
+      ap (λ own. if is_touched own then rows_left file.rows own ++ copied_of files (later_of file (decisions_in (file ∷ files))) else copied_of files (later_of file (decisions_in (file ∷ files)))) (own_is file files)
+      ∙ ap (λ b. if b then rows_left file.rows (decisions_on file.rows) ++ copied_of files (later_of file (decisions_in (file ∷ files))) else copied_of files (later_of file (decisions_in (file ∷ files)))) (touched_is file.rows (keeps file (inl refl)))
+      ∙ ap (λ (found : List (List Value)). if changes_file file then found ++ copied_of files (later_of file (decisions_in (file ∷ files))) else copied_of files (later_of file (decisions_in (file ∷ files)))) (left_is file.rows (keeps file (inl refl)))
+      ∙ ap (λ later. if changes_file file then left_in file ++ copied_of files later else copied_of files later) (later_is file files)
+      ∙ ap (λ (more : List (List Value)). if changes_file file then left_in file ++ more else more) (copied_is files (λ one there. keeps one (inr there)))
+      ∙ by (changes_file file) (filter changes_file files)
+    where
+      by : (b : Bool) (more : List ScannedFile) → (if b then left_in file ++ flat_map left_in more else flat_map left_in more) ≡ flat_map left_in (cond b (file ∷ more) more)
+      by true more = refl
+      by false more = refl

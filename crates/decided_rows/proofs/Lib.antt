@@ -1,3 +1,5 @@
 pub mod CopyLaws
 pub mod FileDecisions
+pub mod HitLaws
 pub mod SameFiles
+pub mod WidthLaws

@@ -1,14 +1,12 @@
 -- What a statement decides for the rows that its filter hits (SQL standard, "Data manipulation"; Iceberg specification,
 -- "Row-level Deletes"): for each what the statement does with it, and the rows that the statement inserts.
-use Rattle.std.specs.Prelude.{◌≡◌, ℕ, false, List, map, filter}
+use Rattle.std.specs.Prelude.{ℕ, List, map, filter}
 use Rattle.std.specs.List.{flat_map}
 use Rattle.row_values.specs.declared.value.Value.{Value}
-use Rattle.sql_predicates.specs.declared.pred.Pred.{Pred}
 use Rattle.sql_statements.specs.declared.effect.Effect.{Effect}
 use Rattle.sql_statements.specs.declared.effect.Effect.TheVariants as effects
 use Rattle.sql_statements.specs.declared.statement.Source.{Source}
 use Rattle.sql_statements.specs.declared.statement.Statement.{Statement}
-use Rattle.sql_statements.specs.Clauses.{holds_on}
 use Rattle.sql_statements.specs.Effects.{effect, insertions}
 use Rattle.sql_statements.specs.NewRows.{row_of}
 use Rattle.change_sets.specs.declared.scanned.Decision.{Decision}
@@ -41,7 +39,3 @@ decisions_of sources s width scanned rows = record {
   rows = map (decision_for sources s) (hit_rows scanned);
   inserted = map row_of (insertions width sources s rows);
 }
-
--- the statement keeps each row of which the filter is not True
-abbrev pub KeepsMisses : Pred → List Source → Statement → Type 0
-KeepsMisses pred sources s = (row : List Value) → holds_on pred row ≡ false → effect sources s row ≡ effects.Keep

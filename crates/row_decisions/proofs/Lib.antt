@@ -1,0 +1,3 @@
+pub mod HitLaws
+pub mod HitSteps
+pub mod MadeLaws
