@@ -114,7 +114,7 @@ kept_by : (f : LoadFault) (now later : Option (List ℕ)) (bytes : List ℕ) →
 kept_by f (Some b) later bytes keeps e = ap (or_fault f) (keeps b refl) ∙ e
 kept_by f None later bytes keeps e = cc
 
-file_kept_by : (path : List ℕ) (now later : Files) (name : Option (List ℕ)) (bytes : List ℕ) → KeepsFiles (Some now) (Some later) → (or_fault (fault.Outside path) name >>= λ n. bytes_under path n now) ≡ Ok bytes → (or_fault (fault.Outside path) name >>= λ n. bytes_under path n later) ≡ Ok bytes
+pub file_kept_by : (path : List ℕ) (now later : Files) (name : Option (List ℕ)) (bytes : List ℕ) → KeepsFiles (Some now) (Some later) → (or_fault (fault.Outside path) name >>= λ n. bytes_under path n now) ≡ Ok bytes → (or_fault (fault.Outside path) name >>= λ n. bytes_under path n later) ≡ Ok bytes
 file_kept_by path now later (Some name) bytes keeps e = kept_by (fault.Missing path) (files_map.get now name) (files_map.get later name) bytes (λ b. keeps name b) e
 file_kept_by path now later None bytes keeps e = cc
 

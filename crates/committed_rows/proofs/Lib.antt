@@ -1,0 +1,4 @@
+pub mod Committed
+pub mod FalseFilter
+pub mod Loads
+pub mod RowsRead
