@@ -1,0 +1,2 @@
+pub mod NoVersions
+pub mod StaysOpen

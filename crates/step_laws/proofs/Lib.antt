@@ -1,0 +1,5 @@
+pub mod Changes
+pub mod Keeping
+pub mod Loaded
+pub mod Planning
+pub mod Validating
