@@ -1,0 +1,7 @@
+pub mod CommitFaults
+pub mod Ends
+pub mod Known
+pub mod Plans
+pub mod Resting
+pub mod Swaps
+pub mod ValidateLaws

@@ -1,0 +1,146 @@
+-- What a step of a session leaves (Iceberg specification, "Optimistic Concurrency"), on a table that nobody else changes: the
+-- step is the machine's over the files that were there, the table stays open, and the rows of `main` are, as a bag, those that the
+-- statement leaves where the step answers that it is committed or changes nothing, and else as they were.
+use Rattle.std.specs.Prelude.{◌≡◌, ◌≢◌, ◌⊎◌, option_map, codes, length, slice_get, ◌+◌, ◌<◌, ◌^◌, ℕ, IsSome, List, Option, Some, None, Ok}
+use Rattle.std.specs.List.{AllByRecursion}
+use Rattle.plain_types.specs.Bags.{SameBag}
+use Rattle.row_values.specs.declared.schema.Column.{Column}
+use Rattle.row_values.specs.declared.schema.TableSchema.{TableSchema}
+use Rattle.row_values.specs.declared.value.Value.{Value}
+use Rattle.sql_statements.specs.declared.statement.Source.{Source}
+use Rattle.sql_statements.specs.declared.statement.Statement.{Statement}
+use Rattle.sql_statements.specs.Effects.{result_of}
+use Rattle.sql_statements.specs.Tables.{branch_of}
+use Rattle.store_core.specs.Files.{Files, bytes_of, swapped}
+use Rattle.file_names.specs.declared.names.Names.{Names}
+use Rattle.file_names.specs.FileNames.{data_name, metadata_name}
+use Rattle.report_lines.specs.declared.answer.Answer.{Answer}
+use Rattle.report_lines.specs.declared.answer.Answer.TheVariants as answer
+use Rattle.report_lines.specs.declared.event.Stepped.{Stepped}
+use Rattle.table_names.specs.Versions.{version_of_name, version_prefix}
+use Rattle.commit_builder.specs.declared.commit.Prepared.{Prepared}
+use Rattle.statement_plans.specs.declared.outcome.Pending.{Pending}
+use Rattle.statement_plans.specs.Planning.{IsOfColumns}
+use Rattle.session_machine.specs.declared.place.Phase.{Phase}
+use Rattle.session_machine.specs.declared.place.Phase.TheVariants as phase
+use Rattle.session_machine.specs.declared.place.Place.{Place}
+use Rattle.session_machine.specs.Machine.{turn_of}
+use Rattle.session_work.specs.Open.{IsOpen}
+use Rattle.session_work.specs.Work.{IsPending, IsSwapping}
+use Rattle.session_steps.specs.declared.fault.RunFault.{RunFault}
+use Rattle.session_steps.specs.declared.fault.RunFault.TheVariants as run
+use Rattle.session_steps.specs.declared.session.Session.{Session}
+
+-- ---- what a session has between steps
+
+pub record HasPending (table : List ℕ) (schema : TableSchema) (sources : List Source) (s : Statement) (files : Files) (session : Session) : Type 0 where
+  pub pending : Pending
+  pub held : session.pending ≡ Some pending
+  pub planned : session.place.planned ≡ pending.base.version
+  pub work : IsPending table schema sources s files pending
+
+pub record HasPrepared (table : List ℕ) (schema : TableSchema) (sources : List Source) (s : Statement) (files : Files) (session : Session) : Type 0 where
+  pub pending : Pending
+  pub prepared : Prepared
+  pub held : session.pending ≡ Some pending
+  pub made : session.prepared ≡ Some prepared
+  pub planned : session.place.planned ≡ pending.base.version
+  pub seen : session.place.seen ≡ pending.base.version
+  pub work : IsSwapping table schema sources s files pending prepared
+
+-- in each phase: nothing, its plan, or its plan and the version that it prepared
+abbrev pub InPhase : List ℕ → TableSchema → List Source → Statement → Files → Session → Phase → Type 0
+InPhase table schema sources s files session phase.Plan = Unit {0}
+InPhase table schema sources s files session phase.Validate = HasPending table schema sources s files session
+InPhase table schema sources s files session phase.Swap = HasPrepared table schema sources s files session
+
+-- and so over every store
+abbrev pub InShape : Session → Phase → Type 0
+InShape session phase.Plan = Unit {0}
+InShape session phase.Validate = IsSome session.pending
+InShape session phase.Swap = IsSome session.pending × IsSome session.prepared × (session.place.seen + 1 < 2 ^ 32)
+
+abbrev pub HasShape : Session → Type 0
+HasShape session = InShape session session.place.phase
+
+-- ---- rows
+
+-- the statement was carried out on the rows
+abbrev pub IsCarriedOut : List Source → List Column → Statement → List (List Value) → List (List Value) → Type 0
+IsCarriedOut sources columns s before after = (left : List (List Value)) × (result_of columns sources s before ≡ Ok left) × SameBag after left
+
+abbrev pub LeavesRows : List Source → List Column → Statement → Option Answer → List (List Value) → List (List Value) → Type 0
+LeavesRows sources columns s (Some (answer.Committed version)) before after = IsCarriedOut sources columns s before after
+LeavesRows sources columns s (Some answer.Unchanged) before after = IsCarriedOut sources columns s before after
+LeavesRows sources columns s other before after = after ≡ before
+
+-- ---- steps
+
+pub record IsStep (table : List ℕ) (schema : TableSchema) (sources : List Source) (s : Statement) (old new : Files) (current : ℕ) (place : Place) (session : Session) (stepped : Stepped) : Type 0 where
+  pub was : IsOpen table schema old current
+  pub next : ℕ
+  pub turned : turn_of table sources old current place s place.phase ≡ Ok (record { current = next; place = session.place; stepped = stepped })
+  pub still : IsOpen table schema new next
+  pub rows : LeavesRows sources schema.columns s stepped.answer was.rows still.rows
+  pub held : InPhase table schema sources s new session session.place.phase
+
+-- Each name is as it was but those of the files of this session.
+abbrev pub LeavesRest : List ℕ → Names → Option Files → Option Files → Type 0
+LeavesRest table names old new = (name : List ℕ) → ((n : ℕ) → name ≢ data_name table names.run names.session n) → ((n : ℕ) → name ≢ metadata_name table names.run names.session n) → bytes_of new name ≡ bytes_of old name
+
+-- Each name is as it was but those, and those of versions.
+abbrev pub LeavesOthers : List ℕ → Names → Option Files → Option Files → Type 0
+LeavesOthers table names old new = (name : List ℕ) → ((n : ℕ) → name ≢ data_name table names.run names.session n) → ((n : ℕ) → name ≢ metadata_name table names.run names.session n) → version_of_name (version_prefix table) name ≡ 0 → bytes_of new name ≡ bytes_of old name
+
+-- ---- the statement at hand, where there is one
+
+abbrev pub IsHeldOf : List ℕ → TableSchema → List Source → Files → Session → Option Statement → Type 0
+IsHeldOf table schema sources files session None = Unit {0}
+IsHeldOf table schema sources files session (Some s) = InPhase table schema sources s files session session.place.phase
+
+abbrev pub IsHeld : List ℕ → TableSchema → List Source → List Statement → Files → Session → Type 0
+IsHeld table schema sources statements files session = IsHeldOf table schema sources files session (slice_get statements session.place.at)
+
+-- the statements are of the columns and on `main`, and no more than a script has
+pub record AreWorkable (schema : TableSchema) (sources : List Source) (statements : List Statement) : Type 0 where
+  pub columns : AllByRecursion (IsOfColumns schema.columns sources) statements
+  pub main : AllByRecursion (λ s. branch_of s ≡ codes "main") statements
+  pub few : length statements < 2 ^ 63
+
+-- the step of a session of these statements: nothing where all are answered
+abbrev pub IsStepOf : List ℕ → TableSchema → List Source → Option Statement → Files → Files → ℕ → Place → Session → Stepped → Type 0
+IsStepOf table schema sources None old new current place session stepped = (new ≡ old) × (session.place ≡ place) × (stepped ≡ record { event = None; answer = None })
+IsStepOf table schema sources (Some s) old new current place session stepped = IsStep table schema sources s old new current place session stepped
+
+-- ---- a swap that failed
+
+-- The files after a swap of these bytes that failed: as they were where the store failed, and with the version or without it
+-- where that is not known.
+abbrev pub LeftBy : List ℕ → List ℕ → Option Files → Option Files → RunFault → Type 0
+LeftBy name bytes old new run.Store = new ≡ old
+LeftBy name bytes old new (run.Unknown session statement) = (new ≡ old) ⊎ (new ≡ option_map (swapped name bytes) old)
+LeftBy name bytes old new run.Memory = (new ≡ old) ⊎ (new ≡ option_map (swapped name bytes) old)
+LeftBy name bytes old new other = ⊥
+
+-- ---- a step that is not made to its end
+
+-- A swap whose outcome is not known may have committed its statement.
+abbrev pub MayCommit : RunFault → Type 0
+MayCommit (run.Unknown session statement) = Unit {0}
+MayCommit run.Memory = Unit {0}
+MayCommit other = ⊥
+
+-- The table is open as it was, or at the next version with the rows that the statement at hand leaves.
+pub record IsCommitted (table : List ℕ) (schema : TableSchema) (sources : List Source) (s : Statement) (old new : Files) (current : ℕ) : Type 0 where
+  pub was : IsOpen table schema old current
+  pub next : IsOpen table schema new (current + 1)
+  pub rows : IsCarriedOut sources schema.columns s was.rows next.rows
+
+pub record IsAsBefore (table : List ℕ) (schema : TableSchema) (old new : Files) (current : ℕ) : Type 0 where
+  pub was : IsOpen table schema old current
+  pub still : IsOpen table schema new current
+  pub rows : still.rows ≡ was.rows
+
+abbrev pub EndsOf : List ℕ → TableSchema → List Source → Option Statement → Files → Files → ℕ → RunFault → Type 0
+EndsOf table schema sources None old new current fault = ⊥
+EndsOf table schema sources (Some s) old new current fault = IsAsBefore table schema old new current ⊎ (MayCommit fault × IsCommitted table schema sources s old new current)
