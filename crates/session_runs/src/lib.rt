@@ -1,0 +1,9 @@
+//! The run of a session, step by step: the steps are the machine's, and the rows of `main` are those of a serial run of the
+//! statements that were carried out.
+#![tactic(auto)]
+
+mod laws;
+
+pub use laws::{
+    a_run_goes_on_by_a_step, a_run_stands_when_files_are_added, a_step_carries_a_serial_run_on,
+};
