@@ -1,2 +1,4 @@
 pub mod RunLaws
+pub mod RunningLaws
 pub mod SerialLaws
+pub mod TurnLaws

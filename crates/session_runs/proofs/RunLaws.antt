@@ -1,5 +1,5 @@
 -- Runs go on by a step, and stand when files are added.
-use Rattle.std.proofs.Common.{◌≡◌, ℕ, List, [], ◌∷◌, ◌++◌, Some, Ok, refl, sym, subst, ◌∙◌}
+use Rattle.std.proofs.Common.{◌≡◌, ℕ, List, [], ◌∷◌, ◌++◌, Some, Ok, refl, sym, subst}
 use Rattle.sql_statements.specs.declared.statement.Source.{Source}
 use Rattle.sql_statements.specs.declared.statement.Statement.{Statement}
 use Rattle.store_core.specs.Files.{Files, KeepsFiles}

@@ -1,16 +1,15 @@
 -- A step carries a serial run on.
-use Rattle.std.proofs.Common.{◌≡◌, ℕ, codes, true, List, [], ◌∷◌, ◌++◌, Option, Some, None, Result, Ok, refl, sym, ap, subst, ◌∙◌}
+use Rattle.std.proofs.Common.{◌≡◌, ℕ, codes, true, List, [], ◌∷◌, ◌++◌, Option, Some, None, Ok, refl, sym, ap, subst, ◌∙◌}
 use Rattle.std.specs.Prelude.{option_and_then}
 use Rattle.plain_types.specs.Bags.{SameBag}
-use Rattle.plain_types.proofs.BagLaws.{SameBag-refl, SameBag-sym, SameBag-trans}
+use Rattle.plain_types.proofs.BagLaws.{SameBag-sym, SameBag-trans}
 use Rattle.row_values.specs.declared.schema.Column.{Column}
 use Rattle.row_values.specs.declared.value.Value.{Value}
-use Rattle.sql_statements.specs.declared.effect.SqlRefusal.{SqlRefusal}
 use Rattle.sql_statements.specs.declared.statement.Source.{Source}
 use Rattle.sql_statements.specs.declared.statement.Statement.{Statement}
 use Rattle.sql_statements.specs.Effects.{result_of}
-use Rattle.sql_statements.specs.Results.{SameBranches, SameOutcome, SameState}
-use Rattle.sql_statements.specs.Serial.{Branch, State, Told, after, changed, committed, run_on, rows_on, serial, unchanged}
+use Rattle.sql_statements.specs.Results.{SameBranches, SameOutcome}
+use Rattle.sql_statements.specs.Serial.{Branch, State, Told, after, changed, committed, rows_on, serial, unchanged}
 use Rattle.sql_statements.specs.Tables.{branch_of, is_dml}
 use Rattle.sql_statements.proofs.RunLaws.{run_is, same_serial, serial-append}
 use Rattle.report_lines.specs.declared.answer.Answer.{Answer}

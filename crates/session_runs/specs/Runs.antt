@@ -1,6 +1,6 @@
 -- The run of a session (Iceberg specification, "Optimistic Concurrency"; SQL standard, "Data manipulation"): its steps are the
 -- machine's, one after another, and the statements that they carry out, in order, are a serial run on the rows of `main`.
-use Rattle.std.specs.Prelude.{◌≡◌, ℕ, codes, List, [], ◌∷◌, Option, Some, None, slice_get, Ok}
+use Rattle.std.specs.Prelude.{◌≡◌, ℕ, codes, List, [], ◌∷◌, Option, Some, slice_get, Ok}
 use Rattle.std.specs.List.{flat_map}
 use Rattle.plain_types.specs.Steps.{by_option}
 use Rattle.row_values.specs.declared.schema.Column.{Column}

@@ -1,6 +1,8 @@
 //! The laws of runs. Each is the contract of a function that does nothing.
-ghost use Rattle.std.specs.Prelude.{◌≡◌, ◌∷◌, ◌++◌, [], true, codes, ℕ, List as Seq, Option as Maybe, Ok, Some};
+ghost use Rattle.std.specs.Prelude.{◌≡◌, ◌⊎◌, ◌∷◌, ◌++◌, [], true, codes, slice_get, ℕ, List as Seq, Option as Maybe, Ok, Some};
+ghost use Rattle.std.specs.List.{AllByRecursion};
 ghost use Rattle.row_values.specs.declared.schema.Column.{Column};
+ghost use Rattle.row_values.specs.declared.schema.TableSchema.{TableSchema};
 ghost use Rattle.row_values.specs.declared.value.Value.{Value};
 ghost use Rattle.sql_statements.specs.declared.statement.Source.{Source};
 ghost use Rattle.sql_statements.specs.declared.statement.Statement.{Statement};
@@ -10,9 +12,14 @@ ghost use Rattle.store_core.specs.Files.{Files, KeepsFiles};
 ghost use Rattle.report_lines.specs.declared.answer.Answer.{Answer as Said};
 ghost use Rattle.report_lines.specs.declared.event.Stepped.{Stepped as Step};
 ghost use Rattle.session_machine.specs.declared.place.Place.{Place as Stand};
-ghost use Rattle.session_machine.specs.Machine.{Turned, turn};
-ghost use Rattle.session_steps.specs.Steps.{LeavesRows};
-ghost use Rattle.session_runs.specs.Runs.{IsRun, IsSerial, told_by};
+ghost use Rattle.session_machine.specs.declared.place.Phase.TheVariants as phases;
+ghost use Rattle.session_machine.specs.Machine.{Turned, turn, turn_of};
+ghost use Rattle.session_work.specs.Open.{IsOpen};
+ghost use Rattle.session_steps.specs.declared.session.Session.{Session};
+ghost use Rattle.session_steps.specs.Steps.{EndsOf, IsStep, LeavesRows};
+ghost use Rattle.session_steps.specs.declared.fault.RunFault.{RunFault};
+ghost use Rattle.session_runs.specs.Running.{Ended, Running};
+ghost use Rattle.session_runs.specs.Runs.{IsRun, IsSerial, told_at, told_by};
 
 /// A run with the machine's next step behind it is a run.
 pub fn a_run_goes_on_by_a_step()
@@ -30,4 +37,26 @@ pub fn a_run_stands_when_files_are_added()
 pub fn a_step_carries_a_serial_run_on()
     ensures { (columns : Seq Column) (sources : Seq Source) (s : Statement) (answer : Maybe Said) (begun before after : Seq (Seq Value)) (told : Seq Told) → is_dml s ≡ true → branch_of s ≡ codes "main" → IsSerial columns sources begun told before → LeavesRows sources columns s answer before after
         → IsSerial columns sources begun (told ++ told_by s answer) after }
+{}
+
+/// A step tells of the statement at hand alone, and the session stays at it, or is before the plan of the next one.
+pub fn a_step_is_of_the_statement_at_hand()
+    ensures tells { (table : Seq ℕ) (sources : Seq Source) (files : Files) (current : ℕ) (place : Stand) (s : Statement) (statements : Seq Statement) (turned : Turned) → slice_get statements place.at ≡ Some s → turn_of table sources files current place s place.phase ≡ Ok turned → told_at statements turned.stepped ≡ told_by s turned.stepped.answer }
+    ensures stays { (table : Seq ℕ) (sources : Seq Source) (files : Files) (current : ℕ) (place : Stand) (s : Statement) (turned : Turned) → turn_of table sources files current place s place.phase ≡ Ok turned → (turned.place.phase ≡ phases.Plan) ⊎ (turned.place.at ≡ place.at) }
+{}
+
+/// A step that is made keeps a session running: on the files after it the steps with it are the machine's, the table is open, and
+/// its rows are those of the serial run of what was carried out.
+pub fn a_step_that_is_made_goes_on()
+    ensures { (table : Seq ℕ) (schema : TableSchema) (sources : Seq Source) (statements : Seq Statement) (start old new : Files) (first : ℕ) (place : Stand) (begun : IsOpen table schema start first) (session after : Session) (steps : Seq Step) (s : Statement) (stepped : Step)
+        → AllByRecursion (λ x. is_dml x ≡ true) statements → AllByRecursion (λ x. branch_of x ≡ codes "main") statements → KeepsFiles (Some old) (Some new) → (running : Running table schema sources statements start first place begun old session steps) → slice_get statements session.place.at ≡ Some s
+        → IsStep table schema sources s old new running.last session.place after stepped → Running table schema sources statements start first place begun new after (steps ++ stepped ∷ []) }
+{}
+
+/// A step that is not made to its end leaves the rows of what was carried out, or, where a swap may have won, of that and of the
+/// statement at hand.
+pub fn a_step_that_fails_ends_a_run()
+    ensures { (table : Seq ℕ) (schema : TableSchema) (sources : Seq Source) (statements : Seq Statement) (start old new : Files) (first : ℕ) (place : Stand) (begun : IsOpen table schema start first) (session : Session) (steps : Seq Step) (s : Statement) (fault : RunFault)
+        → AllByRecursion (λ x. is_dml x ≡ true) statements → AllByRecursion (λ x. branch_of x ≡ codes "main") statements → KeepsFiles (Some old) (Some new) → (running : Running table schema sources statements start first place begun old session steps) → slice_get statements session.place.at ≡ Some s
+        → EndsOf table schema sources (Some s) old new running.last fault → Ended table schema sources statements start first place begun new session.place steps fault }
 {}

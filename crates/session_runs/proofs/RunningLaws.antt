@@ -1,0 +1,95 @@
+-- A step that is made keeps a session running.
+use Rattle.std.proofs.Common.{◌≡◌, ◌+◌, ℕ, codes, true, List, [], ◌∷◌, ◌++◌, Option, Some, None, Result, Ok, ◌⊎◌, ⊎_elim, refl, sym, ap, subst, ◌∙◌, slice_get, inl, inr}
+use Rattle.std.specs.List.{AllByRecursion}
+use Rattle.std.proofs.lemmas.Grind.{flat_map-append}
+use Rattle.plain_types.specs.Steps.{by_option}
+use Rattle.row_values.specs.declared.schema.TableSchema.{TableSchema}
+use Rattle.row_values.specs.declared.value.Value.{Value}
+use Rattle.sql_statements.specs.declared.statement.Source.{Source}
+use Rattle.sql_statements.specs.declared.statement.Statement.{Statement}
+use Rattle.sql_statements.specs.Serial.{Told}
+use Rattle.sql_statements.specs.Tables.{branch_of, is_dml}
+use Rattle.store_core.specs.Files.{Files, KeepsFiles}
+use Rattle.report_lines.specs.declared.answer.Answer.TheVariants as answer
+use Rattle.report_lines.specs.declared.event.Stepped.{Stepped}
+use Rattle.table_state.specs.declared.load_fault.LoadFault.{LoadFault}
+use Rattle.session_machine.specs.declared.place.Phase.TheVariants as phase
+use Rattle.session_machine.specs.declared.place.Place.{Place}
+use Rattle.session_machine.specs.Machine.{Turned, rests, turn, turn_of}
+use Rattle.session_work.specs.Open.{IsOpen}
+use Rattle.session_steps.specs.declared.session.Session.{Session}
+use Rattle.session_steps.specs.declared.fault.RunFault.{RunFault}
+use Rattle.session_steps.specs.Steps.{EndsOf, InPhase, IsCarriedOut, IsHeldOf, IsStep, LeavesRows}
+use Rattle.session_steps.proofs.Ends.{all_at}
+use Rattle.session_runs.specs.Running.{Ended, Running}
+use Rattle.session_runs.specs.Runs.{IsSerial, told_at, told_by, told_in}
+use Rattle.session_runs.proofs.RunLaws.{goes_on, run_stands}
+use Rattle.session_runs.proofs.SerialLaws.{carries_on}
+use Rattle.session_runs.proofs.TurnLaws.{stays, tells}
+
+-- an open table has its rows once
+rows_once : (table : List ℕ) (schema : TableSchema) (files : Files) (current : ℕ) (one other : IsOpen table schema files current) → one.rows ≡ other.rows
+rows_once table schema files current one other =
+    let same : ◌≡◌ {A = Result (List (List Value)) LoadFault} (Ok one.rows) (Ok other.rows) = sym one.told ∙ other.told in
+    cc
+
+-- before its plan a session has nothing of any statement
+idle : (table : List ℕ) (schema : TableSchema) (sources : List Source) (files : Files) (session : Session) (found : Option Statement) → session.place.phase ≡ phase.Plan → IsHeldOf table schema sources files session found
+idle table schema sources files session None is = tt
+idle table schema sources files session (Some s) is = subst (InPhase table schema sources s files session) (sym is) tt
+
+module _ (table : List ℕ) (schema : TableSchema) (sources : List Source) (statements : List Statement) (changes : AllByRecursion (λ (s : Statement). is_dml s ≡ true) statements) (main : AllByRecursion (λ (s : Statement). branch_of s ≡ codes "main") statements)
+    (start : Files) (first : ℕ) (place : Place) (begun : IsOpen table schema start first) where
+  -- the step of a statement
+  module _ (old new : Files) (kept : KeepsFiles (Some old) (Some new)) (session : Session) (steps : List Stepped) (running : Running table schema sources statements start first place begun old session steps) (s : Statement) (at_hand : slice_get statements session.place.at ≡ Some s) where
+    turned_by : (turned : Turned) → turn_of table sources old running.last session.place s session.place.phase ≡ Ok turned → turn table sources old running.last session.place statements ≡ Ok turned
+    unfolding turn
+    turned_by turned is = ap (λ (found : Option Statement). by_option found (λ x. turn_of table sources old running.last session.place x session.place.phase) (Ok (rests running.last session.place))) at_hand ∙ is
+
+    pub goes : (after : Session) (stepped : Stepped) → IsStep table schema sources s old new running.last session.place after stepped → Running table schema sources statements start first place begun new after (steps ++ stepped ∷ [])
+    goes after stepped step =
+        let turned : Turned = record { current = step.next; place = after.place; stepped = stepped } in
+        let told : told_in statements (steps ++ stepped ∷ []) ≡ told_in statements steps ++ told_by s stepped.answer =
+        flat_map-append (told_at statements) steps (stepped ∷ []) ∙ ap (λ (xs : List Told). told_in statements steps ++ xs) (none_behind (told_at statements stepped) ∙ tells table sources old running.last session.place s statements turned at_hand step.turned) in
+        record {
+          last = step.next;
+          still = step.still;
+          run = run_stands table sources old new statements kept (steps ++ stepped ∷ []) first step.next place after.place (goes_on table sources old statements steps first running.last place session.place turned running.run (turned_by turned step.turned));
+          serial_rows =
+              subst (λ (xs : List Told). IsSerial schema.columns sources begun.rows xs step.still.rows) (sym told)
+              (carries_on schema.columns sources s (all_at (λ (x : Statement). is_dml x ≡ true) statements session.place.at s changes at_hand) (all_at (λ (x : Statement). branch_of x ≡ codes "main") statements session.place.at s main at_hand) begun.rows (told_in statements steps) stepped.answer running.still.rows step.still.rows running.serial_rows
+              (subst (λ (rows : List (List Value)). LeavesRows sources schema.columns s stepped.answer rows step.still.rows) (rows_once table schema old running.last step.was running.still) step.rows));
+          held =
+              ⊎_elim (λ plan. idle table schema sources new after (slice_get statements after.place.at) plan)
+              (λ same. subst (IsHeldOf table schema sources new after) (sym (ap (slice_get statements) same ∙ at_hand)) step.held)
+              (stays table sources old running.last session.place s turned step.turned);
+        }
+      where
+        none_behind : (xs : List Told) → xs ++ [] ≡ xs
+        none_behind [] = refl
+        none_behind (x ∷ xs) = ap (λ (ys : List Told). x ∷ ys) (none_behind xs)
+
+    -- a step that is not made to its end
+    pub ends : (fault : RunFault) → EndsOf table schema sources (Some s) old new running.last fault → Ended table schema sources statements start first place begun new session.place steps fault
+    ends fault either = record {
+      last = running.last;
+      run = run_stands table sources old new statements kept steps first running.last place session.place running.run;
+      left =
+          ⊎_elim
+          (λ same. inl (record {
+            still = same.still;
+            serial_rows = subst (IsSerial schema.columns sources begun.rows (told_in statements steps)) (rows_once table schema old running.last running.still same.was ∙ sym same.rows) running.serial_rows;
+          }))
+          (λ flight. inr (
+            flight.0,
+            record {
+              s = s;
+              at_hand = at_hand;
+              next = flight.1.next;
+              serial_rows =
+                  carries_on schema.columns sources s (all_at (λ (x : Statement). is_dml x ≡ true) statements session.place.at s changes at_hand) (all_at (λ (x : Statement). branch_of x ≡ codes "main") statements session.place.at s main at_hand) begun.rows (told_in statements steps) (Some (answer.Committed 0)) running.still.rows flight.1.next.rows running.serial_rows
+                  (subst (λ (rows : List (List Value)). IsCarriedOut sources schema.columns s rows flight.1.next.rows) (rows_once table schema old running.last flight.1.was running.still) flight.1.rows);
+            },
+          ))
+          either;
+    }
