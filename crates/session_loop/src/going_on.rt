@@ -4,11 +4,13 @@ ghost use Rattle.std.specs.List.{AllByRecursion};
 ghost use Rattle.std.specs.Option.{ForSome};
 ghost use Rattle.plain_types.specs.Causes.{Rose, RoseTwice};
 ghost use Rattle.sql_statements.specs.Tables.{is_dml};
+ghost use Rattle.sql_statements.specs.declared.statement.Statement.{Statement as Stated};
 ghost use Rattle.store_core.specs.Files.{Files, KeepsFiles};
 ghost use Rattle.file_names.specs.FileNames.{NoneFrom};
 ghost use Rattle.commit_builder.specs.NextVersion.{AreNames};
 ghost use Rattle.session_machine.specs.declared.place.Place.{Place as Stand};
 ghost use Rattle.session_work.specs.Open.{IsOpen};
+ghost use Rattle.session_steps.specs.Faults.{CannotStep};
 ghost use Rattle.session_steps.specs.Steps.{AreWorkable, HasShape, LeavesOthers};
 ghost use Rattle.session_runs.specs.Running.{Ended, Running};
 
@@ -41,6 +43,7 @@ pub fn go_on<S: Store, C: Clock>(
     requires running { ForSome (S.files store.old) (λ old. (start : Files) × (first : ℕ) × (place : Stand) × (begun : IsOpen table.now schema.now start first) × Running table.now schema.now sources.now statements.now start first place begun old session.old steps.old.items) }
     ensures goes { OnOk result (ForSome (S.files store.old) (λ old. (start : Files) (first : ℕ) (place : Stand) (begun : IsOpen table.now schema.now start first) → Running table.now schema.now sources.now statements.now start first place begun old session.old steps.old.items → (new : Files) × (S.files store.new ≡ Some new) × Running table.now schema.now sources.now statements.now start first place begun new session.new steps.new.items)) }
     ensures ends { IfErr result (λ fault. ForSome (S.files store.old) (λ old. (start : Files) (first : ℕ) (place : Stand) (begun : IsOpen table.now schema.now start first) → Running table.now schema.now sources.now statements.now start first place begun old session.old steps.old.items → (new : Files) × (S.files store.new ≡ Some new) × Ended table.now schema.now sources.now statements.now start first place begun new session.old.place steps.new.items fault)) }
+    ensures faulted { IfErr result (λ fault. ForSome (S.files store.old) (λ old. (s : Stated) → slice_get statements.now session.old.place.at ≡ Some s → CannotStep table.now schema.now s old fault)) }
     ensures shape { OnOk result (HasShape session.new) }
     ensures session { (session.new.names.run ≡ session.old.names.run) × (session.new.names.session ≡ session.old.names.session) }
     ensures free { ForSome (S.files store.new) (NoneFrom table.now session.new.names.run session.new.names.session session.new.names.next) }
@@ -49,6 +52,7 @@ pub fn go_on<S: Store, C: Clock>(
     ensures later { S.faults store.old ≤ S.faults store.new }
     ensures store { IsErrOf result RunFault.Store → Rose (S.faults store.old) (S.faults store.new) × (0 < S.unsettled store.new) }
     ensures unknown { (number statement : ℕ) → IsErrOf result (RunFault.Unknown number statement) → RoseTwice (S.faults store.old) (S.faults store.new) × (2 ≤ S.unsettled store.new) }
+    ensures at_hand { (number statement : ℕ) → IsErrOf result (RunFault.Unknown number statement) → (number ≡ session.old.place.session) × (statement ≡ session.old.place.at) }
     ensures quiet { OnOk result ((S.faults store.new ≡ S.faults store.old) ⊎ (S.unsettled store.new ≡ 0)) }
 {
     if steps.reserve(1).is_err() {

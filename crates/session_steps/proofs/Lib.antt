@@ -1,5 +1,6 @@
 pub mod CommitFaults
 pub mod Ends
+pub mod Faulted
 pub mod Known
 pub mod Plans
 pub mod Resting

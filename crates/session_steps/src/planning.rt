@@ -1,5 +1,5 @@
 //! The step in which a statement plans its change.
-ghost use Rattle.std.specs.Prelude.{◌≡◌, ◌≤◌, ◌<◌, ◌+◌, ◌^◌, codes, ℕ, IfOk, IsErrOf, OnOk, Some};
+ghost use Rattle.std.specs.Prelude.{◌≡◌, ◌≤◌, ◌<◌, ◌+◌, ◌^◌, codes, ℕ, IfErr, IfOk, IsErrOf, OnOk, Some};
 ghost use Rattle.std.specs.Option.{ForSome};
 ghost use Rattle.plain_types.specs.Causes.{HasCause};
 ghost use Rattle.store_core.specs.Files.{Files, KeepsFiles};
@@ -10,6 +10,7 @@ ghost use Rattle.statement_plans.specs.Planning.{IsOfColumns};
 ghost use Rattle.session_machine.specs.Machine.{plan_turn};
 ghost use Rattle.session_machine.specs.Sights.{name_of_column, refused_as};
 ghost use Rattle.session_work.specs.Open.{IsOpen};
+ghost use Rattle.session_steps.specs.Faults.{CannotStep};
 ghost use Rattle.session_steps.specs.Choices.{answer_of, pending_of};
 ghost use Rattle.session_steps.specs.Steps.{HasShape, IsStep, LeavesRest};
 
@@ -99,6 +100,7 @@ pub(crate) fn plan_step<S: Store>(
     requires named { AreNames session.old.names }
     requires free { ForSome (S.files store.old) (NoneFrom table.now session.old.names.run session.old.names.session session.old.names.next) }
     ensures step { IfOk result (λ stepped. ForSome (S.files store.old) (λ old. (current : ℕ) → IsOpen table.now schema.now old current → (new : Files) × (S.files store.new ≡ Some new) × IsStep table.now schema.now sources.now statement.now old new current session.old.place session.new stepped)) }
+    ensures faulted { IfErr result (λ fault. ForSome (S.files store.old) (λ old. CannotStep table.now schema.now statement.now old fault)) }
     ensures shape { OnOk result (HasShape session.new) }
     ensures session { (session.new.names.run ≡ session.old.names.run) × (session.new.names.session ≡ session.old.names.session) }
     ensures free { ForSome (S.files store.new) (NoneFrom table.now session.new.names.run session.new.names.session session.new.names.next) }

@@ -116,6 +116,7 @@ pub(crate) fn swap_step<S: Store>(
     ensures later { S.faults store.old ≤ S.faults store.new }
     ensures store { IsErrOf result RunFault.Store → Rose (S.faults store.old) (S.faults store.new) × (0 < S.unsettled store.new) }
     ensures unknown { (number statement : ℕ) → IsErrOf result (RunFault.Unknown number statement) → RoseTwice (S.faults store.old) (S.faults store.new) × (2 ≤ S.unsettled store.new) }
+    ensures at_hand { (number statement : ℕ) → IsErrOf result (RunFault.Unknown number statement) → (number ≡ session.old.place.session) × (statement ≡ session.old.place.at) }
     ensures quiet { OnOk result ((S.faults store.new ≡ S.faults store.old) ⊎ (S.unsettled store.new ≡ 0)) }
 {
     let retries = retries_of(session);

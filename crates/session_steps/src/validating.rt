@@ -1,5 +1,5 @@
 //! The step in which a statement's change is validated.
-ghost use Rattle.std.specs.Prelude.{◌≡◌, ◌≤◌, ◌<◌, ◌+◌, ◌^◌, codes, ℕ, List as Seq, IfOk, IsErrOf, IsSome, OnOk, Some};
+ghost use Rattle.std.specs.Prelude.{◌≡◌, ◌≤◌, ◌<◌, ◌+◌, ◌^◌, codes, ℕ, List as Seq, IfErr, IfOk, IsErrOf, IsSome, OnOk, Some};
 ghost use Rattle.std.specs.Option.{ForSome};
 ghost use Rattle.plain_types.specs.Causes.{HasCause};
 ghost use Rattle.store_core.specs.Files.{Files, KeepsFiles};
@@ -8,6 +8,7 @@ ghost use Rattle.table_state.specs.Live.{data_files_of};
 ghost use Rattle.sql_statements.specs.Tables.{branch_of};
 ghost use Rattle.session_machine.specs.Machine.{validate_turn};
 ghost use Rattle.session_work.specs.Open.{IsOpen};
+ghost use Rattle.session_steps.specs.Faults.{CannotStep};
 ghost use Rattle.session_steps.specs.Choices.{is_unchanged, prepared_of, said_of};
 ghost use Rattle.session_steps.specs.Steps.{HasPending, HasShape, IsStep, LeavesRest};
 ghost use Rattle.sql_statements.specs.declared.statement.Source.{Source};
@@ -89,6 +90,7 @@ pub(crate) fn validate_step<S: Store>(
     requires free { ForSome (S.files store.old) (NoneFrom table.now session.old.names.run session.old.names.session session.old.names.next) }
     requires hour { IsLong now_ms }
     ensures step { IfOk result (λ stepped. ForSome (S.files store.old) (λ old. (schema : TableSchema) (sources : Seq Source) (s : Statement) (current : ℕ) → branch_of s ≡ codes "main" → IsOpen table.now schema old current → HasPending table.now schema sources s old session.old → (new : Files) × (S.files store.new ≡ Some new) × IsStep table.now schema sources s old new current session.old.place session.new stepped)) }
+    ensures faulted { IfErr result (λ fault. ForSome (S.files store.old) (λ old. (schema : TableSchema) (sources : Seq Source) (s : Statement) → HasPending table.now schema sources s old session.old → CannotStep table.now schema s old fault)) }
     ensures shape { OnOk result (HasShape session.new) }
     ensures session { (session.new.names.run ≡ session.old.names.run) × (session.new.names.session ≡ session.old.names.session) }
     ensures free { ForSome (S.files store.new) (NoneFrom table.now session.new.names.run session.new.names.session session.new.names.next) }

@@ -2,6 +2,7 @@ use Rattle.std.proofs.Common.{Option, subst}
 use Rattle.store_core.specs.Files.{Files, KeepsFiles}
 use Rattle.cow_writer.specs.PutNames.{LeavesOthers}
 use Rattle.session_steps.proofs.Plans.{plan_steps}
+use Rattle.session_steps.proofs.Faulted.{by_plan}
 use Rattle.session_steps.proofs.Known.{of_plan}
 use Rattle.session_steps.proofs.Resting.{by_data}
 use Rattle.session_steps.proofs.planning.plan_step.Goals as goal
@@ -24,3 +25,6 @@ returns-in-Err-take-clause-others g c = by_data c.args.table.now c.args.session.
 
 pub returns-in-Err-clause-known : goal.returns-in-Err-clause-known
 returns-in-Err-clause-known g c = λ number statement is. of_plan c.in-Err.fault c.plan_fault.result number statement c.plan_fault.ensures is
+
+pub returns-in-Err-clause-faulted : goal.returns-in-Err-clause-faulted
+returns-in-Err-clause-faulted g c = λ old told. by_plan c.args.table.now c.args.schema.now c.args.statement.now old c.in-Err.fault c.plan_fault.result c.plan_fault.ensures (c.in-Err.ensures.refused old told)

@@ -7,6 +7,7 @@ use Rattle.file_names.specs.declared.names.Names.{Names}
 use Rattle.file_names.specs.FileNames.{NoneFrom}
 use Rattle.session_machine.specs.declared.place.Phase.TheVariants as phase
 use Rattle.session_steps.proofs.Ends.{all_at, at_hand, by_statement, each_err, free_after, has_version, held_in, if_err, if_ok, nothing, others_after, swap_ends_of, version_missing}
+use Rattle.session_steps.proofs.Faulted as faulted
 use Rattle.session_steps.proofs.Resting.{ends_as_before}
 use Rattle.session_steps.proofs.stepping.step.Goals as goal
 
@@ -79,3 +80,30 @@ pub returns-in-Swap-clause-others : goal.returns-in-Swap-clause-others
 returns-in-Swap-clause-others g c =
     let found = slice_get_read c.args.statements.now (length c.args.statements.now) c.args.session.now.place.at c.in-Some.statement.now refl c.in-Some.ensures.lookup.3.0 c.in-Some.ensures.lookup.1 in
     others_after c.args.table.now c.args.schema.now c.args.sources.now c.in-Some.statement.now c.args.session.now (has_version c.args.session.now c.in-Swap.is c.requires.shape) c.args.session.now.names (g.S.Store.files c.args.store.now) (g.S.Store.files c.swap_step.new.store) c.swap_step.ensures.swaps (at_hand c.args.table.now c.args.schema.now c.args.sources.now c.args.statements.now c.args.session.now c.in-Some.statement.now (g.S.Store.files c.args.store.now) found c.in-Swap.is c.requires.open c.requires.held)
+
+pub returns-in-Plan-clause-at_hand : goal.returns-in-Plan-clause-at_hand
+returns-in-Plan-clause-at_hand g c =
+    λ number statement is. absurd (c.plan_step.ensures.known number statement is)
+
+pub returns-in-Validate-clause-at_hand : goal.returns-in-Validate-clause-at_hand
+returns-in-Validate-clause-at_hand g c =
+    λ number statement is. absurd (c.validate_step.ensures.known number statement is)
+
+pub returns-in-Plan-clause-faulted : goal.returns-in-Plan-clause-faulted
+returns-in-Plan-clause-faulted g c =
+    let found = slice_get_read c.args.statements.now (length c.args.statements.now) c.args.session.now.place.at c.in-Some.statement.now refl c.in-Some.ensures.lookup.3.0 c.in-Some.ensures.lookup.1 in
+    if_err c.plan_step.result c.plan_step.ensures.faulted (λ fault why files told s is.
+    faulted.at_hand c.args.table.now c.args.schema.now files (slice_get c.args.statements.now c.args.session.now.place.at) c.in-Some.statement.now s found is fault (why files told))
+
+pub returns-in-Validate-clause-faulted : goal.returns-in-Validate-clause-faulted
+returns-in-Validate-clause-faulted g c =
+    let found = slice_get_read c.args.statements.now (length c.args.statements.now) c.args.session.now.place.at c.in-Some.statement.now refl c.in-Some.ensures.lookup.3.0 c.in-Some.ensures.lookup.1 in
+    if_err c.validate_step.result c.validate_step.ensures.faulted (λ fault why files told s is.
+    faulted.at_hand c.args.table.now c.args.schema.now files (slice_get c.args.statements.now c.args.session.now.place.at) c.in-Some.statement.now s found is fault (why files told c.args.schema.now c.args.sources.now c.in-Some.statement.now (held_in c.args.table.now c.args.schema.now c.args.sources.now files c.args.session.now (slice_get c.args.statements.now c.args.session.now.place.at) c.in-Some.statement.now phase.Validate found c.in-Validate.is (c.requires.held files told))))
+
+pub returns-in-Swap-clause-faulted : goal.returns-in-Swap-clause-faulted
+returns-in-Swap-clause-faulted g c =
+    let found = slice_get_read c.args.statements.now (length c.args.statements.now) c.args.session.now.place.at c.in-Some.statement.now refl c.in-Some.ensures.lookup.3.0 c.in-Some.ensures.lookup.1 in
+    if_err c.swap_step.result c.swap_step.ensures.ends (λ fault left files told s is.
+    let has = (held_in c.args.table.now c.args.schema.now c.args.sources.now files c.args.session.now (slice_get c.args.statements.now c.args.session.now.place.at) c.in-Some.statement.now phase.Swap found c.in-Swap.is (c.requires.held files told)) in
+    faulted.at_hand c.args.table.now c.args.schema.now files (slice_get c.args.statements.now c.args.session.now.place.at) c.in-Some.statement.now s found is fault (faulted.by_swap c.args.table.now c.args.schema.now c.in-Some.statement.now files has.prepared.name has.prepared.bytes (g.S.Store.files c.args.store.now) (g.S.Store.files c.swap_step.new.store) fault (left has.prepared has.made)))

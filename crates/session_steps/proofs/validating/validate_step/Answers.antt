@@ -8,6 +8,7 @@ use Rattle.session_steps.specs.declared.fault.RunFault.{RunFault}
 use Rattle.session_steps.specs.declared.fault.RunFault.TheVariants as run
 use Rattle.session_steps.proofs.CommitFaults.{cause_stays}
 use Rattle.session_steps.proofs.ValidateLaws.{validation_steps}
+use Rattle.session_steps.proofs.Faulted.{by_commit}
 use Rattle.session_steps.proofs.Known.{of_commit}
 use Rattle.session_steps.proofs.Resting.{by_metadata}
 use Rattle.session_steps.proofs.validating.validate_step.Goals as goal
@@ -39,3 +40,6 @@ returns-in-Err-take-clause-others g c = by_metadata c.args.table.now c.args.sess
 
 pub returns-in-Err-clause-known : goal.returns-in-Err-clause-known
 returns-in-Err-clause-known g c = λ number statement is. of_commit c.in-Err.fault c.commit_fault.result number statement c.commit_fault.ensures is
+
+pub returns-in-Err-clause-faulted : goal.returns-in-Err-clause-faulted
+returns-in-Err-clause-faulted g c = λ old told schema sources s has. by_commit c.args.table.now schema s old sources c.args.session.now c.in-Some.pending (sym c.in-Some.ensures.value) has c.in-Err.fault c.commit_fault.result c.commit_fault.ensures (c.in-Err.ensures.refused old told)
