@@ -1,5 +1,5 @@
 //! Validates a statement, and prepares its commit.
-ghost use Rattle.std.specs.Prelude.{◌≡◌, ◌≤◌, ◌<◌, ◌+◌, ◌^◌, ◌⊎◌, true, IfErr, IfOk, IsErrOf};
+ghost use Rattle.std.specs.Prelude.{◌≡◌, ◌≤◌, ◌<◌, ◌+◌, ◌^◌, ◌⊎◌, true, is_some, IfErr, IfOk, IsErrOf};
 ghost use Rattle.std.specs.Option.{ForSome};
 ghost use Rattle.plain_types.specs.Causes.{HasCause};
 ghost use Rattle.store_core.specs.Files.{KeepsFiles};
@@ -48,6 +48,7 @@ fn lay<S: Store>(
     ensures raised { (names.old.next ≤ names.new.next) × (names.new.next ≤ names.old.next + 2 ^ 100) }
     ensures free { ForSome (S.files store.new) (NoneFrom head.now.table names.new.run names.new.session names.new.next) }
     ensures others { LeavesOthers head.now.table names.old (S.files store.old) (S.files store.new) }
+    ensures told { is_some (S.files store.new) ≡ is_some (S.files store.old) }
     ensures kept { KeepsFiles (S.files store.old) (S.files store.new) }
     ensures kind { IfErr result (λ f. (f ≡ LoadFault.Store) ⊎ (f ≡ LoadFault.Memory)) }
     ensures unsettled { IsErrOf result LoadFault.Store → 0 < S.unsettled store.new }
@@ -81,6 +82,7 @@ fn find<S: Store>(
     ensures raised { (names.old.next ≤ names.new.next) × (names.new.next ≤ names.old.next + 2 ^ 100) }
     ensures free { ForSome (S.files store.new) (NoneFrom head.now.table names.new.run names.new.session names.new.next) }
     ensures others { LeavesOthers head.now.table names.old (S.files store.old) (S.files store.new) }
+    ensures told { is_some (S.files store.new) ≡ is_some (S.files store.old) }
     ensures kept { KeepsFiles (S.files store.old) (S.files store.new) }
     ensures kind { IfErr result (λ f. (f ≡ LoadFault.Store) ⊎ (f ≡ LoadFault.Memory)) }
     ensures unsettled { IsErrOf result LoadFault.Store → 0 < S.unsettled store.new }
@@ -117,6 +119,7 @@ pub fn validate<S: Store>(
     ensures raised { (names.old.next ≤ names.new.next) × (names.new.next ≤ names.old.next + 2 ^ 100) }
     ensures free { ForSome (S.files store.new) (NoneFrom table.now names.new.run names.new.session names.new.next) }
     ensures others { LeavesOthers table.now names.old (S.files store.old) (S.files store.new) }
+    ensures told { is_some (S.files store.new) ≡ is_some (S.files store.old) }
     ensures kept { KeepsFiles (S.files store.old) (S.files store.new) }
     ensures unsettled { IsErrOf result (CommitFault.Load LoadFault.Store) → 0 < S.unsettled store.new }
     ensures cause { HasCause (CommitFault.Load LoadFault.Store) (CommitFault.Load LoadFault.Memory) (S.faults store.old) (S.faults store.new) result }

@@ -1,5 +1,5 @@
 -- What a put under the next name leaves: the later names are free, and under other names all is as it was.
-use Rattle.std.proofs.Common.{◌≡◌, ◌≤◌, ◌+◌, ℕ, List, Option, Some, None, option_map, Err, IsErrOf, refl, sym, ap, ◌∙◌, subst, inl, inr, arith}
+use Rattle.std.proofs.Common.{◌≡◌, ◌≤◌, ◌+◌, ℕ, List, Option, Some, None, option_map, is_some, Err, IsErrOf, refl, sym, ap, ◌∙◌, subst, inl, inr, arith}
 use Rattle.std.specs.Option.{ForSome}
 use Rattle.store_core.specs.Files.{Files, KeepsFiles, MayAdd, bytes_of, with_file}
 use Rattle.store_core.specs.declared.store.StoreFault.{StoreFault}
@@ -57,6 +57,16 @@ module _ (table : List ℕ) (names : Names) where
 
 pub kept_same : (old new : Option Files) → new ≡ old → KeepsFiles old new
 kept_same old new same = λ name bytes there. ap (λ (files : Option Files). bytes_of files name) same ∙ there
+
+-- ---- whether the files are told
+
+pub told_with : (old new : Option Files) (name bytes : List ℕ) → new ≡ option_map (with_file name bytes) old → is_some new ≡ is_some old
+told_with (Some files) new name bytes is = ap is_some is
+told_with None new name bytes is = ap is_some is
+
+pub told_may : (old new : Option Files) (name : List ℕ) → MayAdd name old new → is_some new ≡ is_some old
+told_may old new name (inl same) = ap is_some same
+told_may old new name (inr (bytes, is)) = told_with old new name bytes is
 
 -- ---- the answers of a put
 

@@ -1,5 +1,5 @@
 //! Puts under the next names of manifests and manifest lists.
-ghost use Rattle.std.specs.Prelude.{◌≡◌, ◌<◌, ◌≤◌, ◌+◌, ◌^◌, ◌⊎◌, [], option_map, length, IfOk, IfErr, IsErrOf, OnOk};
+ghost use Rattle.std.specs.Prelude.{◌≡◌, ◌<◌, ◌≤◌, ◌+◌, ◌^◌, ◌⊎◌, [], option_map, length, is_some, IfOk, IfErr, IsErrOf, OnOk};
 ghost use Rattle.std.specs.List.{AllByRecursion};
 ghost use Rattle.std.specs.Option.{ForSome};
 ghost use Rattle.plain_types.specs.Causes.{HasCause};
@@ -37,6 +37,7 @@ pub(crate) fn put_next<S: Store>(
     ensures drawn { names.new ≡ drawn names.old }
     ensures free { ForSome (S.files store.new) (NoneFrom table.now names.new.run names.new.session names.new.next) }
     ensures others { LeavesOthers table.now names.old (S.files store.old) (S.files store.new) }
+    ensures told { is_some (S.files store.new) ≡ is_some (S.files store.old) }
     ensures kept { KeepsFiles (S.files store.old) (S.files store.new) }
     ensures reads { S.reads store.new ≡ S.reads store.old }
     ensures kind { IfErr result (λ f. (f ≡ LoadFault.Store) ⊎ (f ≡ LoadFault.Memory)) }
@@ -136,6 +137,7 @@ pub(crate) fn put_manifests<S: Store>(
     ensures raised { (names.old.next ≤ names.new.next) × (names.new.next ≤ names.old.next + 2 ^ 64) }
     ensures free { ForSome (S.files store.new) (NoneFrom head.now.table names.new.run names.new.session names.new.next) }
     ensures others { LeavesOthers head.now.table names.old (S.files store.old) (S.files store.new) }
+    ensures told { is_some (S.files store.new) ≡ is_some (S.files store.old) }
     ensures kept { KeepsFiles (S.files store.old) (S.files store.new) }
     ensures reads { S.reads store.new ≡ S.reads store.old }
     ensures kind { IfErr result (λ f. (f ≡ LoadFault.Store) ⊎ (f ≡ LoadFault.Memory)) }

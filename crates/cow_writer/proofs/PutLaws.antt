@@ -1,5 +1,5 @@
 -- What a put under the next name leaves: the later names are free, and under other names all is as it was.
-use Rattle.std.proofs.Common.{◌≡◌, ◌≤◌, ◌+◌, ℕ, List, Option, Some, None, option_map, Err, IsErrOf, refl, sym, ap, ◌∙◌, subst, inl, inr, arith}
+use Rattle.std.proofs.Common.{◌≡◌, ◌≤◌, ◌+◌, ℕ, List, Option, Some, None, is_some, option_map, Err, IsErrOf, refl, sym, ap, ◌∙◌, subst, inl, inr, arith}
 use Rattle.std.specs.Option.{ForSome}
 use Rattle.store_core.specs.Files.{Files, KeepsFiles, MayAdd, bytes_of, with_file}
 use Rattle.store_core.specs.declared.store.StoreFault.{StoreFault}
@@ -57,6 +57,16 @@ module _ (table : List ℕ) (names : Names) where
 
 pub kept_same : (old new : Option Files) → new ≡ old → KeepsFiles old new
 kept_same old new same = λ name bytes there. ap (λ (files : Option Files). bytes_of files name) same ∙ there
+
+-- ---- whether the files are told
+
+pub told_map : {X Y : Type 0} (f : X → Y) (o : Option X) → is_some (option_map f o) ≡ is_some o
+told_map f (Some x) = refl
+told_map f None = refl
+
+pub told_may : (name : List ℕ) (old new : Option Files) → MayAdd name old new → is_some new ≡ is_some old
+told_may name old new (inl same) = ap (λ (files : Option Files). is_some files) same
+told_may name old new (inr (bytes, is)) = ap (λ (files : Option Files). is_some files) is ∙ told_map (with_file name bytes) old
 
 -- ---- the answers of a put
 

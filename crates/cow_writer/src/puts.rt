@@ -1,5 +1,5 @@
 //! Puts under the next names of data files.
-ghost use Rattle.std.specs.Prelude.{◌≡◌, ◌<◌, ◌+◌, ◌^◌, ◌⊎◌, option_map, IfErr, IsErrOf, OnOk};
+ghost use Rattle.std.specs.Prelude.{◌≡◌, ◌<◌, ◌+◌, ◌^◌, ◌⊎◌, is_some, option_map, IfErr, IsErrOf, OnOk};
 ghost use Rattle.std.specs.Option.{ForSome};
 ghost use Rattle.plain_types.specs.Causes.{HasCause};
 ghost use Rattle.store_core.specs.Files.{KeepsFiles, with_file};
@@ -26,6 +26,7 @@ pub(crate) fn put_next<S: Store>(
     ensures drawn { names.new ≡ behind 1 names.old }
     ensures free { ForSome (S.files store.new) (NoneFrom table.now names.new.run names.new.session names.new.next) }
     ensures others { LeavesOthers table.now names.old (S.files store.old) (S.files store.new) }
+    ensures told { is_some (S.files store.new) ≡ is_some (S.files store.old) }
     ensures kept { KeepsFiles (S.files store.old) (S.files store.new) }
     ensures kind { IfErr result (λ f. (f ≡ LoadFault.Store) ⊎ (f ≡ LoadFault.Memory)) }
     ensures unsettled { IsErrOf result LoadFault.Store → 0 < S.unsettled store.new }

@@ -1,5 +1,5 @@
 //! Writes the new data files of a statement.
-ghost use Rattle.std.specs.Prelude.{◌≡◌, ◌≤◌, ◌<◌, ◌+◌, ◌^◌, ◌⊎◌, true, [], length, map, option_map, IfErr, IfOk, IsErrOf, IsTrue, OnOk};
+ghost use Rattle.std.specs.Prelude.{◌≡◌, ◌≤◌, ◌<◌, ◌+◌, ◌^◌, ◌⊎◌, true, [], length, map, is_some, option_map, IfErr, IfOk, IsErrOf, IsTrue, OnOk};
 ghost use Rattle.std.specs.List.{list_all};
 ghost use Rattle.std.specs.Option.{ForSome};
 ghost use Rattle.plain_types.specs.Causes.{HasCause};
@@ -100,6 +100,7 @@ fn write_piece<S: Store>(
     ensures raised { (names.old.next ≤ names.new.next) × (names.new.next ≤ names.old.next + 1) }
     ensures free { ForSome (S.files store.new) (NoneFrom state.now.table names.new.run names.new.session names.new.next) }
     ensures others { LeavesOthers state.now.table names.old (S.files store.old) (S.files store.new) }
+    ensures told { is_some (S.files store.new) ≡ is_some (S.files store.old) }
     ensures kept { KeepsFiles (S.files store.old) (S.files store.new) }
     ensures kind { IfErr result (λ f. (f ≡ LoadFault.Store) ⊎ (f ≡ LoadFault.Memory)) }
     ensures unsettled { IsErrOf result LoadFault.Store → 0 < S.unsettled store.new }
@@ -136,6 +137,7 @@ fn write_pieces<S: Store>(
     ensures raised { (names.old.next ≤ names.new.next) × (names.new.next ≤ names.old.next + length pieces.now) }
     ensures free { ForSome (S.files store.new) (NoneFrom state.now.table names.new.run names.new.session names.new.next) }
     ensures others { LeavesOthers state.now.table names.old (S.files store.old) (S.files store.new) }
+    ensures told { is_some (S.files store.new) ≡ is_some (S.files store.old) }
     ensures kept { KeepsFiles (S.files store.old) (S.files store.new) }
     ensures kind { IfErr result (λ f. (f ≡ LoadFault.Store) ⊎ (f ≡ LoadFault.Memory)) }
     ensures unsettled { IsErrOf result LoadFault.Store → 0 < S.unsettled store.new }
@@ -186,6 +188,7 @@ pub fn write_copies<S: Store>(
     ensures raised { (names.old.next ≤ names.new.next) × (names.new.next ≤ names.old.next + 2 ^ 64) }
     ensures free { ForSome (S.files store.new) (NoneFrom state.now.table names.new.run names.new.session names.new.next) }
     ensures others { LeavesOthers state.now.table names.old (S.files store.old) (S.files store.new) }
+    ensures told { is_some (S.files store.new) ≡ is_some (S.files store.old) }
     ensures kept { KeepsFiles (S.files store.old) (S.files store.new) }
     ensures kind { IfErr result (λ f. (f ≡ LoadFault.Store) ⊎ (f ≡ LoadFault.Memory)) }
     ensures unsettled { IsErrOf result LoadFault.Store → 0 < S.unsettled store.new }

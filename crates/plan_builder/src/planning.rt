@@ -1,5 +1,5 @@
 //! Plans a statement.
-ghost use Rattle.std.specs.Prelude.{◌≡◌, ◌≢◌, ◌≤◌, ◌<◌, ◌+◌, ◌^◌, ◌⊎◌, ◌↔◌, false, length, option_copied, option_map, Err, IfErr, IfOk, IsErrOf, IsTrue, OnOk};
+ghost use Rattle.std.specs.Prelude.{◌≡◌, ◌≢◌, ◌≤◌, ◌<◌, ◌+◌, ◌^◌, ◌⊎◌, ◌↔◌, false, length, is_some, option_copied, option_map, Err, IfErr, IfOk, IsErrOf, IsTrue, OnOk};
 ghost use Rattle.std.specs.Option.{ForSome};
 ghost use Rattle.plain_types.specs.Causes.{HasCause};
 ghost use Rattle.row_values.specs.Rows.{AreRows};
@@ -108,6 +108,7 @@ fn write<S: Store>(
     ensures raised { (names.old.next ≤ names.new.next) × (names.new.next ≤ names.old.next + 2 ^ 64) }
     ensures free { ForSome (S.files store.new) (NoneFrom base.table names.new.run names.new.session names.new.next) }
     ensures others { LeavesOthers base.table names.old (S.files store.old) (S.files store.new) }
+    ensures told { is_some (S.files store.new) ≡ is_some (S.files store.old) }
     ensures kept { KeepsFiles (S.files store.old) (S.files store.new) }
     ensures kind { IfErr result (λ f. (f ≡ LoadFault.Store) ⊎ (f ≡ LoadFault.Memory)) }
     ensures unsettled { IsErrOf result LoadFault.Store → 0 < S.unsettled store.new }
@@ -142,6 +143,7 @@ fn plan_on<S: Store>(
     ensures raised { (names.old.next ≤ names.new.next) × (names.new.next ≤ names.old.next + 2 ^ 64) }
     ensures free { ForSome (S.files store.new) (NoneFrom base.table names.new.run names.new.session names.new.next) }
     ensures others { LeavesOthers base.table names.old (S.files store.old) (S.files store.new) }
+    ensures told { is_some (S.files store.new) ≡ is_some (S.files store.old) }
     ensures kept { KeepsFiles (S.files store.old) (S.files store.new) }
     ensures unsettled { IsErrOf result LoadFault.Store → 0 < S.unsettled store.new }
     ensures cause { HasCause LoadFault.Store LoadFault.Memory (S.faults store.old) (S.faults store.new) result }
@@ -198,6 +200,7 @@ pub fn plan<S: Store>(
     ensures raised { (names.old.next ≤ names.new.next) × (names.new.next ≤ names.old.next + 2 ^ 64) }
     ensures free { ForSome (S.files store.new) (NoneFrom table.now names.new.run names.new.session names.new.next) }
     ensures others { LeavesOthers table.now names.old (S.files store.old) (S.files store.new) }
+    ensures told { is_some (S.files store.new) ≡ is_some (S.files store.old) }
     ensures kept { KeepsFiles (S.files store.old) (S.files store.new) }
     ensures unsettled { IsErrOf result (PlanFault.Load LoadFault.Store) → 0 < S.unsettled store.new }
     ensures cause { HasCause (PlanFault.Load LoadFault.Store) (PlanFault.Load LoadFault.Memory) (S.faults store.old) (S.faults store.new) result }

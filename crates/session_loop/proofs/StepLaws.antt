@@ -15,7 +15,7 @@ use Rattle.session_steps.specs.Steps.{EndsOf, IsStepOf}
 use Rattle.session_runs.specs.Running.{Ended, Running}
 use Rattle.session_runs.proofs.RunningLaws.{ends, goes}
 
-some_of : {X : Type 0} (o : Option X) → is_some o ≡ true → (x : X) × (o ≡ Some x)
+pub some_of : {X : Type 0} (o : Option X) → is_some o ≡ true → (x : X) × (o ≡ Some x)
 some_of (Some x) there = (x, refl)
 some_of None there = absurd cc
 
@@ -28,7 +28,7 @@ module _ (table : List ℕ) (schema : TableSchema) (sources : List Source) (stat
   pub unmade : (old : Files) (fault : RunFault) → items ≡ steps → Running table schema sources statements start first place begun old session steps → Ended table schema sources statements start first place begun old session.place items fault
   unmade old fault same running =
       subst (λ (xs : List Stepped). Ended table schema sources statements start first place begun old session.place xs fault) (sym same)
-      (record { last = running.last; run = running.run; left = inl (record { still = running.still; serial_rows = running.serial_rows }) })
+      (record { last = running.last; run = running.run; left = inl (record { still = running.still; serial_rows = running.serial_rows }); way = running.way })
 
   module _ (old new : Files) (kept : KeepsFiles (Some old) (Some new)) (running : Running table schema sources statements start first place begun old session steps) where
     pub ended : (fault : RunFault) → items ≡ steps → EndsOf table schema sources (slice_get statements session.place.at) old new running.last fault → Ended table schema sources statements start first place begun new session.place items fault

@@ -1,5 +1,5 @@
 //! One step of a run, which is recorded.
-ghost use Rattle.std.specs.Prelude.{◌≡◌, ◌≤◌, ◌<◌, ◌⊎◌, true, ℕ, IfErr, IsErrOf, IsSome, OnOk, Some, slice_get};
+ghost use Rattle.std.specs.Prelude.{◌≡◌, ◌≤◌, ◌<◌, ◌⊎◌, true, ℕ, IfErr, IsErrOf, IsSome, OnOk, Some, is_some, slice_get};
 ghost use Rattle.std.specs.List.{AllByRecursion};
 ghost use Rattle.std.specs.Option.{ForSome};
 ghost use Rattle.plain_types.specs.Causes.{Rose, RoseTwice};
@@ -46,8 +46,10 @@ pub fn go_on<S: Store, C: Clock>(
     ensures faulted { IfErr result (λ fault. ForSome (S.files store.old) (λ old. (s : Stated) → slice_get statements.now session.old.place.at ≡ Some s → CannotStep table.now schema.now s old fault)) }
     ensures shape { OnOk result (HasShape session.new) }
     ensures session { (session.new.names.run ≡ session.old.names.run) × (session.new.names.session ≡ session.old.names.session) }
+    ensures named { AreNames session.new.names }
     ensures free { ForSome (S.files store.new) (NoneFrom table.now session.new.names.run session.new.names.session session.new.names.next) }
     ensures others { LeavesOthers table.now session.old.names (S.files store.old) (S.files store.new) }
+    ensures told { is_some (S.files store.new) ≡ is_some (S.files store.old) }
     ensures kept { KeepsFiles (S.files store.old) (S.files store.new) }
     ensures later { S.faults store.old ≤ S.faults store.new }
     ensures store { IsErrOf result RunFault.Store → Rose (S.faults store.old) (S.faults store.new) × (0 < S.unsettled store.new) }

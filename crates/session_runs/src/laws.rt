@@ -1,5 +1,5 @@
 //! The laws of runs. Each is the contract of a function that does nothing.
-ghost use Rattle.std.specs.Prelude.{◌≡◌, ◌⊎◌, ◌∷◌, ◌++◌, [], true, codes, slice_get, ℕ, List as Seq, Option as Maybe, Ok, Some};
+ghost use Rattle.std.specs.Prelude.{◌≡◌, ◌⊎◌, ◌∷◌, ◌++◌, [], true, codes, slice_get, ℕ, List as Seq, Option as Maybe, None, Ok, Some};
 ghost use Rattle.std.specs.List.{AllByRecursion};
 ghost use Rattle.row_values.specs.declared.schema.Column.{Column};
 ghost use Rattle.row_values.specs.declared.schema.TableSchema.{TableSchema};
@@ -16,9 +16,9 @@ ghost use Rattle.session_machine.specs.declared.place.Phase.TheVariants as phase
 ghost use Rattle.session_machine.specs.Machine.{Turned, turn, turn_of};
 ghost use Rattle.session_work.specs.Open.{IsOpen};
 ghost use Rattle.session_steps.specs.declared.session.Session.{Session};
-ghost use Rattle.session_steps.specs.Steps.{EndsOf, IsStep, LeavesRows};
+ghost use Rattle.session_steps.specs.Steps.{EndsOf, IsHeld, IsStep, LeavesRows};
 ghost use Rattle.session_steps.specs.declared.fault.RunFault.{RunFault};
-ghost use Rattle.session_runs.specs.Running.{Ended, Running};
+ghost use Rattle.session_runs.specs.Running.{Ended, Finished, Running};
 ghost use Rattle.session_runs.specs.Runs.{IsRun, IsSerial, told_at, told_by};
 
 /// A run with the machine's next step behind it is a run.
@@ -43,6 +43,14 @@ pub fn a_step_carries_a_serial_run_on()
 pub fn a_step_is_of_the_statement_at_hand()
     ensures tells { (table : Seq ℕ) (sources : Seq Source) (files : Files) (current : ℕ) (place : Stand) (s : Statement) (statements : Seq Statement) (turned : Turned) → slice_get statements place.at ≡ Some s → turn_of table sources files current place s place.phase ≡ Ok turned → told_at statements turned.stepped ≡ told_by s turned.stepped.answer }
     ensures stays { (table : Seq ℕ) (sources : Seq Source) (files : Files) (current : ℕ) (place : Stand) (s : Statement) (turned : Turned) → turn_of table sources files current place s place.phase ≡ Ok turned → (turned.place.phase ≡ phases.Plan) ⊎ (turned.place.at ≡ place.at) }
+{}
+
+/// A session is running before its first step, and is finished once it runs and all its statements are answered.
+pub fn a_session_runs_from_its_begin_to_its_end()
+    ensures begins { (table : Seq ℕ) (schema : TableSchema) (sources : Seq Source) (statements : Seq Statement) (start : Files) (first : ℕ) (begun : IsOpen table schema start first) (session : Session)
+        → IsHeld table schema sources statements start session → Running table schema sources statements start first session.place begun start session [] }
+    ensures finishes { (table : Seq ℕ) (schema : TableSchema) (sources : Seq Source) (statements : Seq Statement) (start files : Files) (first : ℕ) (place : Stand) (begun : IsOpen table schema start first) (session : Session) (steps : Seq Step)
+        → Running table schema sources statements start first place begun files session steps → slice_get statements session.place.at ≡ None → Finished table schema sources statements start first place begun files steps }
 {}
 
 /// A step that is made keeps a session running: on the files after it the steps with it are the machine's, the table is open, and

@@ -2,7 +2,9 @@ pub mod CommitFaults
 pub mod Ends
 pub mod Faulted
 pub mod Known
+pub mod OpenLaws
 pub mod Plans
 pub mod Resting
+pub mod StillNamed
 pub mod Swaps
 pub mod ValidateLaws

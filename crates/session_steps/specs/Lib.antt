@@ -1,3 +1,4 @@
 pub mod Choices
 pub mod Faults
+pub mod Outside
 pub mod Steps

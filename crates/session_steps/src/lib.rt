@@ -2,6 +2,7 @@
 #![tactic(auto)]
 
 mod fault;
+mod laws;
 mod planning;
 mod session;
 mod stepping;
@@ -9,5 +10,6 @@ mod swapping;
 mod validating;
 
 pub use fault::RunFault;
+pub use laws::a_step_on_an_open_table_can_be_read;
 pub use session::Session;
 pub use stepping::step;

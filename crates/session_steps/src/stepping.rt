@@ -1,5 +1,5 @@
 //! One step of a session.
-ghost use Rattle.std.specs.Prelude.{◌≡◌, ◌≤◌, ◌<◌, ◌⊎◌, ℕ, IfErr, IfOk, IsErrOf, OnOk, Some, slice_get};
+ghost use Rattle.std.specs.Prelude.{◌≡◌, ◌≤◌, ◌<◌, ◌⊎◌, ℕ, IfErr, IfOk, IsErrOf, OnOk, Some, slice_get, is_some};
 ghost use Rattle.std.specs.Option.{ForSome};
 ghost use Rattle.plain_types.specs.Causes.{Rose, RoseTwice};
 ghost use Rattle.sql_statements.specs.declared.statement.Statement.{Statement as Stated};
@@ -46,8 +46,10 @@ pub fn step<S: Store>(
     ensures faulted { IfErr result (λ fault. ForSome (S.files store.old) (λ old. (s : Stated) → slice_get statements.now session.old.place.at ≡ Some s → CannotStep table.now schema.now s old fault)) }
     ensures shape { OnOk result (HasShape session.new) }
     ensures session { (session.new.names.run ≡ session.old.names.run) × (session.new.names.session ≡ session.old.names.session) }
+    ensures named { AreNames session.new.names }
     ensures free { ForSome (S.files store.new) (NoneFrom table.now session.new.names.run session.new.names.session session.new.names.next) }
     ensures others { LeavesOthers table.now session.old.names (S.files store.old) (S.files store.new) }
+    ensures told { is_some (S.files store.new) ≡ is_some (S.files store.old) }
     ensures kept { KeepsFiles (S.files store.old) (S.files store.new) }
     // What a fault needs of the counts.
     ensures later { S.faults store.old ≤ S.faults store.new }

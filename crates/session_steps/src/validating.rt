@@ -1,5 +1,5 @@
 //! The step in which a statement's change is validated.
-ghost use Rattle.std.specs.Prelude.{◌≡◌, ◌≤◌, ◌<◌, ◌+◌, ◌^◌, codes, ℕ, List as Seq, IfErr, IfOk, IsErrOf, IsSome, OnOk, Some};
+ghost use Rattle.std.specs.Prelude.{◌≡◌, ◌≤◌, ◌<◌, ◌+◌, ◌^◌, codes, ℕ, List as Seq, IfErr, IfOk, IsErrOf, IsSome, OnOk, Some, is_some};
 ghost use Rattle.std.specs.Option.{ForSome};
 ghost use Rattle.plain_types.specs.Causes.{HasCause};
 ghost use Rattle.store_core.specs.Files.{Files, KeepsFiles};
@@ -93,8 +93,10 @@ pub(crate) fn validate_step<S: Store>(
     ensures faulted { IfErr result (λ fault. ForSome (S.files store.old) (λ old. (schema : TableSchema) (sources : Seq Source) (s : Statement) → HasPending table.now schema sources s old session.old → CannotStep table.now schema s old fault)) }
     ensures shape { OnOk result (HasShape session.new) }
     ensures session { (session.new.names.run ≡ session.old.names.run) × (session.new.names.session ≡ session.old.names.session) }
+    ensures named { AreNames session.new.names }
     ensures free { ForSome (S.files store.new) (NoneFrom table.now session.new.names.run session.new.names.session session.new.names.next) }
     ensures others { LeavesRest table.now session.old.names (S.files store.old) (S.files store.new) }
+    ensures told { is_some (S.files store.new) ≡ is_some (S.files store.old) }
     ensures kept { KeepsFiles (S.files store.old) (S.files store.new) }
     ensures known { (number statement : ℕ) → IsErrOf result (RunFault.Unknown number statement) → ⊥ }
     ensures unsettled { IsErrOf result RunFault.Store → 0 < S.unsettled store.new }

@@ -43,6 +43,7 @@ loop-rest-preserved g c = record {
       others_then c.args.head.now.table c.args.names.now c.loop-rest.names (g.S.Store.files c.args.store.now) (g.S.Store.files c.loop-rest.store) (g.S.Store.files c.put_next.new.store)
       c.loop-rest.invariant.run c.loop-rest.invariant.session c.loop-rest.invariant.above c.loop-rest.invariant.others
       (subst (λ (table : List ℕ). LeavesOthers table c.loop-rest.names (g.S.Store.files c.loop-rest.store) (g.S.Store.files c.put_next.new.store)) c.as_str.ensures c.put_next.ensures.others);
+  told = c.put_next.ensures.told ∙ c.loop-rest.invariant.told;
   kept = search rules;
   reads = search rules;
   faults = search rules;

@@ -1,4 +1,4 @@
-use Rattle.std.proofs.Common.{◌≡◌, ◌≤◌, ◌+◌, [], length, option_map}
+use Rattle.std.proofs.Common.{◌≡◌, ◌≤◌, ◌+◌, [], length, option_map, is_some}
 use Rattle.std.specs.List.{AllByRecursion}
 use Rattle.std.specs.Option.{ForSome}
 use Rattle.store_core.specs.Files.{KeepsFiles}
@@ -18,6 +18,7 @@ invariant-loop-rest g l = record {
   raised : l.names.next + length l.rest ≡ l.initial.names.next + length l.drafts;
   above : l.initial.names.next ≤ l.names.next;
   others : LeavesOthers l.head.table l.initial.names (g.S.Store.files l.initial.store) (g.S.Store.files l.store);
+  told : is_some (g.S.Store.files l.store) ≡ is_some (g.S.Store.files l.initial.store);
   kept : KeepsFiles (g.S.Store.files l.initial.store) (g.S.Store.files l.store);
   reads : g.S.Store.reads l.store ≡ g.S.Store.reads l.initial.store;
   faults : g.S.Store.faults l.store ≡ g.S.Store.faults l.initial.store;

@@ -1,7 +1,7 @@
 use Rattle.std.proofs.Common.{◌+◌, ◌<◌, ◌^◌, ℕ, List, option_map, refl, ap, ◌∙◌, subst, arith}
 use Rattle.std.specs.FinMap as map
 use Rattle.store_core.specs.Files.{MayAdd, with_file}
-use Rattle.commit_builder.proofs.Puts.{free_at, free_may, free_same, free_with, may_by, others_may, others_with}
+use Rattle.commit_builder.proofs.Puts.{free_at, free_may, free_same, free_with, may_by, others_may, others_with, told_may, told_with}
 use Rattle.commit_builder.proofs.writing.put_next.Goals as goal
 
 -- src/writing.rt:45:16
@@ -46,3 +46,11 @@ returns-clause-others g c =
     others_may c.args.table.now c.args.names.now (g.S.Store.files c.args.store.now) (g.S.Store.files c.put.new.self)
     (subst (λ (name : List ℕ). MayAdd name (g.S.Store.files c.args.store.now) (g.S.Store.files c.put.new.self)) (c.as_str.ensures.value ∙ c.in_ok-name.ensures.name)
     (may_by c.in-Err.fault c.as_str.result.now (g.S.Store.files c.args.store.now) (g.S.Store.files c.put.new.self) c.in-Err.ensures.failed c.in-Err.ensures.memory))
+
+pub returns-in-Ok-clause-told : goal.returns-in-Ok-clause-told
+returns-in-Ok-clause-told g c = told_with (g.S.Store.files c.args.store.now) (g.S.Store.files c.put.new.self) c.as_str.result.now c.args.bytes.now c.in-Ok.ensures.ok
+
+pub returns-clause-told : goal.returns-clause-told
+returns-clause-told g c =
+    told_may (g.S.Store.files c.args.store.now) (g.S.Store.files c.put.new.self) c.as_str.result.now
+    (may_by c.in-Err.fault c.as_str.result.now (g.S.Store.files c.args.store.now) (g.S.Store.files c.put.new.self) c.in-Err.ensures.failed c.in-Err.ensures.memory)

@@ -1,7 +1,7 @@
-use Rattle.std.proofs.Common.{◌≡◌, ◌+◌, ◌<◌, ◌^◌, ℕ, List, option_map, refl, ap, ◌∙◌, subst, arith}
+use Rattle.std.proofs.Common.{◌≡◌, ◌+◌, ◌<◌, ◌^◌, ℕ, List, Option, is_some, option_map, refl, ap, ◌∙◌, subst, arith}
 use Rattle.std.specs.FinMap as map
-use Rattle.store_core.specs.Files.{MayAdd, with_file}
-use Rattle.cow_writer.proofs.PutLaws.{free_at, free_may, free_same, free_with, may_by, others_may, others_with}
+use Rattle.store_core.specs.Files.{Files, MayAdd, with_file}
+use Rattle.cow_writer.proofs.PutLaws.{free_at, free_may, free_same, free_with, may_by, others_may, others_with, told_map, told_may}
 use Rattle.cow_writer.proofs.puts.put_next.Goals as goal
 
 -- src/writing.rt:45:16
@@ -31,6 +31,9 @@ returns-in-Ok-clause-others g c =
     others_with c.args.table.now c.args.names.now (g.S.Store.files c.args.store.now) (g.S.Store.files c.put.new.self) c.args.bytes.now
     (c.in-Ok.ensures.ok ∙ ap (λ (name : List ℕ). option_map (with_file name c.args.bytes.now) (g.S.Store.files c.args.store.now)) (c.as_str.ensures.value ∙ c.in_ok-name.ensures.name))
 
+pub returns-in-Ok-clause-told : goal.returns-in-Ok-clause-told
+returns-in-Ok-clause-told g c = ap (λ (files : Option Files). is_some files) c.in-Ok.ensures.ok ∙ told_map (with_file c.as_str.result.now c.args.bytes.now) (g.S.Store.files c.args.store.now)
+
 -- src/writing.rt:27:1
 pub returns-clause-free : goal.returns-clause-free
 returns-clause-free g c =
@@ -46,3 +49,8 @@ returns-clause-others g c =
     others_may c.args.table.now c.args.names.now (g.S.Store.files c.args.store.now) (g.S.Store.files c.put.new.self)
     (subst (λ (name : List ℕ). MayAdd name (g.S.Store.files c.args.store.now) (g.S.Store.files c.put.new.self)) (c.as_str.ensures.value ∙ c.in_ok-name.ensures.name)
     (may_by c.in-Err.fault c.as_str.result.now (g.S.Store.files c.args.store.now) (g.S.Store.files c.put.new.self) c.in-Err.ensures.failed c.in-Err.ensures.memory))
+
+pub returns-clause-told : goal.returns-clause-told
+returns-clause-told g c =
+    told_may c.as_str.result.now (g.S.Store.files c.args.store.now) (g.S.Store.files c.put.new.self)
+    (may_by c.in-Err.fault c.as_str.result.now (g.S.Store.files c.args.store.now) (g.S.Store.files c.put.new.self) c.in-Err.ensures.failed c.in-Err.ensures.memory)

@@ -61,6 +61,7 @@ loop-rest-preserved g c =
       rows = (rows_step columns rest piece is inv.rows).1;
       free = wrote.free;
       others = others_then table c.args.names.now names (g.S.Store.files c.args.store.now) (g.S.Store.files c.loop-rest.store) (g.S.Store.files c.write_piece.new.store) inv.run inv.session above inv.others wrote.others;
+      told = wrote.told ∙ inv.told;
       kept = λ name bytes there. wrote.kept name bytes (inv.kept name bytes there);
       faults = wrote.cause.kept ∙ inv.faults;
     }

@@ -1,4 +1,4 @@
-use Rattle.std.proofs.Common.{◌≡◌, ◌≤◌, ◌+◌, ◌++◌, length, option_map, true}
+use Rattle.std.proofs.Common.{◌≡◌, ◌≤◌, ◌+◌, ◌++◌, length, is_some, option_map, true}
 use Rattle.std.specs.List.{list_all}
 use Rattle.std.specs.Option.{ForSome}
 use Rattle.row_values.specs.Rows.{is_row}
@@ -22,6 +22,7 @@ invariant-loop-rest g l = record {
   rows : list_all (list_all (is_row l.schema.columns)) l.rest ≡ true;
   free : ForSome (g.S.Store.files l.store) (NoneFrom l.state.table l.names.run l.names.session l.names.next);
   others : LeavesOthers l.state.table l.initial.names (g.S.Store.files l.initial.store) (g.S.Store.files l.store);
+  told : is_some (g.S.Store.files l.store) ≡ is_some (g.S.Store.files l.initial.store);
   kept : KeepsFiles (g.S.Store.files l.initial.store) (g.S.Store.files l.store);
   faults : g.S.Store.faults l.store ≡ g.S.Store.faults l.initial.store;
 }

@@ -1,10 +1,12 @@
-use Rattle.std.proofs.Common.{Option, subst}
+use Rattle.std.proofs.Common.{Option, subst, sym, arith}
 use Rattle.store_core.specs.Files.{Files, KeepsFiles}
 use Rattle.cow_writer.specs.PutNames.{LeavesOthers}
+use Rattle.commit_builder.specs.NextVersion.{AreNames}
 use Rattle.session_steps.proofs.Plans.{plan_steps}
 use Rattle.session_steps.proofs.Faulted.{by_plan}
 use Rattle.session_steps.proofs.Known.{of_plan}
 use Rattle.session_steps.proofs.Resting.{by_data}
+use Rattle.session_steps.proofs.StillNamed.{still_named}
 use Rattle.session_steps.proofs.planning.plan_step.Goals as goal
 
 pub returns-in-Ok-take-clause-step : goal.returns-in-Ok-take-clause-step
@@ -28,3 +30,12 @@ returns-in-Err-clause-known g c = λ number statement is. of_plan c.in-Err.fault
 
 pub returns-in-Err-clause-faulted : goal.returns-in-Err-clause-faulted
 returns-in-Err-clause-faulted g c = λ old told. by_plan c.args.table.now c.args.schema.now c.args.statement.now old c.in-Err.fault c.plan_fault.result c.plan_fault.ensures (c.in-Err.ensures.refused old told)
+
+pub returns-in-Err-clause-named : goal.returns-in-Err-clause-named
+returns-in-Err-clause-named g c = still_named c.args.session.now.names c.plan.new.names c.requires.named c.plan.ensures.session (omega (arith, c.if-session-ge-NAMES_END.false, c.plan.ensures.raised.1))
+
+pub returns-in-Ok-take-clause-named : goal.returns-in-Ok-take-clause-named
+returns-in-Ok-take-clause-named g c = subst AreNames (sym c.take.ensures.names) (still_named c.args.session.now.names c.plan.new.names c.requires.named c.plan.ensures.session (omega (arith, c.if-session-ge-NAMES_END.false, c.plan.ensures.raised.1)))
+
+pub returns-in-Err-take-clause-named : goal.returns-in-Err-take-clause-named
+returns-in-Err-take-clause-named g c = subst AreNames (sym c.take.ensures.names) (still_named c.args.session.now.names c.plan.new.names c.requires.named c.plan.ensures.session (omega (arith, c.if-session-ge-NAMES_END.false, c.plan.ensures.raised.1)))

@@ -9,6 +9,7 @@ use Rattle.session_machine.specs.declared.place.Phase.TheVariants as phase
 use Rattle.session_steps.proofs.Ends.{all_at, at_hand, by_statement, each_err, free_after, has_version, held_in, if_err, if_ok, nothing, others_after, swap_ends_of, version_missing}
 use Rattle.session_steps.proofs.Faulted as faulted
 use Rattle.session_steps.proofs.Resting.{ends_as_before}
+use Rattle.session_steps.proofs.StillNamed.{told_after}
 use Rattle.session_steps.proofs.stepping.step.Goals as goal
 
 pub returns-in-None-clause-steps : goal.returns-in-None-clause-steps
@@ -107,3 +108,6 @@ returns-in-Swap-clause-faulted g c =
     if_err c.swap_step.result c.swap_step.ensures.ends (λ fault left files told s is.
     let has = (held_in c.args.table.now c.args.schema.now c.args.sources.now files c.args.session.now (slice_get c.args.statements.now c.args.session.now.place.at) c.in-Some.statement.now phase.Swap found c.in-Swap.is (c.requires.held files told)) in
     faulted.at_hand c.args.table.now c.args.schema.now files (slice_get c.args.statements.now c.args.session.now.place.at) c.in-Some.statement.now s found is fault (faulted.by_swap c.args.table.now c.args.schema.now c.in-Some.statement.now files has.prepared.name has.prepared.bytes (g.S.Store.files c.args.store.now) (g.S.Store.files c.swap_step.new.store) fault (left has.prepared has.made)))
+
+pub returns-in-Swap-clause-told : goal.returns-in-Swap-clause-told
+returns-in-Swap-clause-told g c = told_after c.args.session.now.prepared (has_version c.args.session.now c.in-Swap.is c.requires.shape) (g.S.Store.files c.args.store.now) (g.S.Store.files c.swap_step.new.store) c.swap_step.ensures.swaps

@@ -4,6 +4,7 @@ use Rattle.std.specs.Prelude.{Err}
 use Rattle.manifest_files.specs.declared.entry.Entry.{Entry}
 use Rattle.branch_validation.specs.Validation.{IsValidated}
 use Rattle.plain_types.specs.Causes.{HasCause}
+use Rattle.commit_builder.specs.NextVersion.{AreNames}
 use Rattle.session_steps.specs.declared.fault.RunFault.{RunFault}
 use Rattle.session_steps.specs.declared.fault.RunFault.TheVariants as run
 use Rattle.session_steps.proofs.CommitFaults.{cause_stays}
@@ -11,6 +12,7 @@ use Rattle.session_steps.proofs.ValidateLaws.{validation_steps}
 use Rattle.session_steps.proofs.Faulted.{by_commit}
 use Rattle.session_steps.proofs.Known.{of_commit}
 use Rattle.session_steps.proofs.Resting.{by_metadata}
+use Rattle.session_steps.proofs.StillNamed.{still_named}
 use Rattle.session_steps.proofs.validating.validate_step.Goals as goal
 
 pub returns-in-Ok-take-clause-step : goal.returns-in-Ok-take-clause-step
@@ -43,3 +45,12 @@ returns-in-Err-clause-known g c = λ number statement is. of_commit c.in-Err.fau
 
 pub returns-in-Err-clause-faulted : goal.returns-in-Err-clause-faulted
 returns-in-Err-clause-faulted g c = λ old told schema sources s has. by_commit c.args.table.now schema s old sources c.args.session.now c.in-Some.pending (sym c.in-Some.ensures.value) has c.in-Err.fault c.commit_fault.result c.commit_fault.ensures (c.in-Err.ensures.refused old told)
+
+pub returns-in-Err-clause-named : goal.returns-in-Err-clause-named
+returns-in-Err-clause-named g c = still_named c.args.session.now.names c.validate-validated.new.names c.requires.named c.validate-validated.ensures.session (omega (arith, c.if-session-ge-NAMES_END.false, c.validate-validated.ensures.raised.1))
+
+pub returns-in-Ok-take-clause-named : goal.returns-in-Ok-take-clause-named
+returns-in-Ok-take-clause-named g c = subst AreNames (sym c.take-in-Ok.ensures.names) (still_named c.args.session.now.names c.validate-validated.new.names c.requires.named c.validate-validated.ensures.session (omega (arith, c.if-session-ge-NAMES_END.false, c.validate-validated.ensures.raised.1)))
+
+pub returns-in-Err-take-clause-named : goal.returns-in-Err-take-clause-named
+returns-in-Err-take-clause-named g c = subst AreNames (sym c.take-in-Ok.ensures.names) (still_named c.args.session.now.names c.validate-validated.new.names c.requires.named c.validate-validated.ensures.session (omega (arith, c.if-session-ge-NAMES_END.false, c.validate-validated.ensures.raised.1)))

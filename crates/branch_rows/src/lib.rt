@@ -1,0 +1,6 @@
+//! How many rows a branch has.
+#![tactic(auto)]
+
+mod counting;
+
+pub use counting::count_rows;
