@@ -1,1 +1,4 @@
+pub mod Outcomes
+pub mod ReadScripts
 pub mod StepLaws
+pub mod Unbegun

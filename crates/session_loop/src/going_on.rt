@@ -23,7 +23,7 @@ use store_core::{Clock, Store};
 
 /// Makes the next step of a session that has a statement left, and records it. Where there is no room for the record the step is
 /// not made.
-pub fn go_on<S: Store, C: Clock>(
+pub(crate) fn go_on<S: Store, C: Clock>(
     alloc: Global,
     store: &mut S,
     clock: &mut C,
