@@ -1,4 +1,4 @@
-"""How long a program runs, and the most memory that it takes."""
+"""How long a program runs, the most memory that it takes, and the instructions that it needs."""
 
 import os
 import subprocess
@@ -34,3 +34,11 @@ def once(words, folder, into):
     if status != 0:
         sys.exit("%s ended with %d" % (words, status))
     return took, usage.ru_maxrss * 1024, output
+
+
+def instructions(words, folder):
+    """How many instructions a program needs that runs in a folder, where it leaves `callgrind.out`."""
+    found = subprocess.run(["valgrind", "--tool=callgrind", "--callgrind-out-file=callgrind.out"] + words, cwd=folder,
+                           stdout=subprocess.DEVNULL, stderr=subprocess.PIPE, text=True)
+    line = [text for text in found.stderr.splitlines() if "Collected" in text][0]
+    return int(line.split(":")[1])

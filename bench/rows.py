@@ -37,13 +37,6 @@ def size(name):
     return os.path.getsize(os.path.join(OUT, name, "data", "a.avro"))
 
 
-def instructions(words):
-    found = subprocess.run(["valgrind", "--tool=callgrind", "--callgrind-out-file=callgrind.out"] + words, cwd=OUT,
-                           stdout=subprocess.DEVNULL, stderr=subprocess.PIPE, text=True)
-    line = [text for text in found.stderr.splitlines() if "Collected" in text][0]
-    return int(line.split(":")[1])
-
-
 def main():
     os.makedirs(OUT, exist_ok=True)
     subprocess.run(["rustc", "-O", "-o", PLAIN, os.path.join(HERE, "plain.rs")], check=True)
@@ -60,10 +53,10 @@ def main():
         print("plain program  %.2f s  %6.1f MB" % (plain, plain_peak / 1e6))
         print("ratio of times %.2f" % (took / plain))
     elif mode == "count":
-        few, many = [instructions(ours(table(n))) for n in (250000, 1000000)]
+        few, many = [measure.instructions(ours(table(n)), OUT) for n in (250000, 1000000)]
         print("%d and %d instructions, ratio %.2f" % (few, many, many / few))
     else:
-        instructions(ours(table(10000)))
+        measure.instructions(ours(table(10000)), OUT)
         subprocess.run(["callgrind_annotate", "callgrind.out"], cwd=OUT)
 
 

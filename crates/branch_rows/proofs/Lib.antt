@@ -1,1 +1,3 @@
+pub mod BlockCounts
 pub mod CountLaws
+pub mod DatumCounts

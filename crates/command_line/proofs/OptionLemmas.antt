@@ -1,13 +1,13 @@
 -- The value of an option, from what clap says of its matches.
-use Rattle.std.proofs.Common.{◌≡◌, ℕ, Bool, true, false, ◌&&◌, refl, ◌==◌, List, [], length, None, Some, cond, sym, ap, subst, ◌∙◌, codes, option_map, option_and_then}
+use Rattle.std.proofs.Common.{◌≡◌, ℕ, Bool, true, false, ◌&&◌, refl, ◌==◌, List, [], length, None, Option, cond, sym, ap, subst, ◌∙◌, codes}
 use Rattle.clap.specs.Words.{App, Kinds, fault_of, matches_of, first_value, rows_of, is_simple, is_simple_and_free, built}
 use Rattle.clap.specs.Faults.{is_free_app}
 use Rattle.clap.specs.Walk.{first_of}
 use Rattle.clap.specs.declared.parser.matches.Found.{Found}
 use Rattle.clap.proofs.WalkLemmas.{first_value-rows}
 use Rattle.clap.proofs.OnLiterals.{clap_on_literals}
-use Rattle.command_line.specs.Options.{rows_app, create_app}
-use Rattle.command_line.specs.Words.{create, option_of, table_named, table_of, create_of}
+use Rattle.command_line.specs.Options.{rows_app, create_app, run_app}
+use Rattle.command_line.specs.Words.{both_named, both_of, option_of}
 
 -- where clap takes the words, an option has the value that it found
 pub option_of-found : (app : App) (name : List ℕ) (words : List (List ℕ)) (found : Found) → fault_of app words ≡ [] → rows_of found ≡ matches_of app words → option_of app name words ≡ first_value found name
@@ -34,9 +34,12 @@ pub simple_create_app : is_simple_and_free create_app ≡ true
 unfolding create_app clap_on_literals
 simple_create_app = refl
 
--- the command that the options of `create` are
-pub create_found : (app : App) (words : List (List ℕ)) (found : Found) (table schema : List ℕ) → app ≡ create_app → ((name : List ℕ) → option_of app name words ≡ first_value found name) → table_named (first_value found (codes "table")) ≡ Some table → first_value found (codes "schema") ≡ Some schema → create_of words ≡ Some (create table schema)
-create_found app words found table schema is has table_is schema_is =
-    let t : table_of create_app words ≡ Some table = ap (λ (a : App). table_named (option_of a (codes "table") words)) (sym is) ∙ ap table_named (has (codes "table")) ∙ table_is in
-    let s : option_of create_app (codes "schema") words ≡ Some schema = ap (λ (a : App). option_of a (codes "schema") words) (sym is) ∙ has (codes "schema") ∙ schema_is in
-    ap (option_and_then (λ (t : List ℕ). option_map (create t) (option_of create_app (codes "schema") words))) t ∙ ap (option_map (create table)) s
+-- and those of `run`
+pub simple_run_app : is_simple_and_free run_app ≡ true
+unfolding run_app clap_on_literals
+simple_run_app = refl
+
+-- a table and a file that the options of a command name
+pub both_found : (app wanted : App) (file : List ℕ) (words : List (List ℕ)) (found : Found) → app ≡ wanted → ((name : List ℕ) → option_of app name words ≡ first_value found name) → both_of wanted file words ≡ both_named (first_value found (codes "table")) (first_value found file)
+both_found app wanted file words found is has =
+    ap (λ (a : App). both_of a file words) (sym is) ∙ ap (λ (t : Option (List ℕ)). both_named t (option_of app file words)) (has (codes "table")) ∙ ap (both_named (first_value found (codes "table"))) (has file)

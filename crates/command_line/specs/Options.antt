@@ -16,6 +16,14 @@ needed name = record (new_rule name) { long = Some name; action = Some Set; requ
 unfoldable pub rows_app : App
 rows_app = with_rule (plain_app (codes "rows")) (needed (codes "table"))
 
+-- a command of a table and a file
+abbrev pub file_app : List ℕ → List ℕ → App
+file_app name file = with_rule (with_rule (plain_app name) (needed (codes "table"))) (needed file)
+
 -- create --table T --schema F
 unfoldable pub create_app : App
-create_app = with_rule (with_rule (plain_app (codes "create")) (needed (codes "table"))) (needed (codes "schema"))
+create_app = file_app (codes "create") (codes "schema")
+
+-- run --table T --script F
+unfoldable pub run_app : App
+run_app = file_app (codes "run") (codes "script")

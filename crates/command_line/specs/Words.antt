@@ -2,12 +2,12 @@
 use Rattle.std.specs.Prelude.{ℕ, Bool, ◌&&◌, ◌==◌, nat_eq, nat_le, codes, List, [], ◌∷◌, length, Option, Some, None, option_map, option_and_then, map, if◌then◌else◌}
 use Rattle.std.specs.Borrow.{Bor}
 use Rattle.command_line.specs.declared.words.Command.{Command}
-use Rattle.command_line.specs.declared.words.Command.TheVariants.{Rows, Create}
+use Rattle.command_line.specs.declared.words.Command.TheVariants.{Rows, Create, Run}
 use Rattle.std.specs.Cmp.Lexicographic.{pointwise}
 use Rattle.clap.specs.Words.{App, fault_of, matches_of}
 use Rattle.clap.specs.Walk.{first_of}
 use Rattle.plain_types.specs.Paths.{is_path}
-use Rattle.command_line.specs.Options.{rows_app, create_app}
+use Rattle.command_line.specs.Options.{rows_app, create_app, run_app}
 
 -- what the words say
 abbrev pub texts : List (Bor (List ℕ)) → List (List ℕ)
@@ -17,10 +17,12 @@ texts words = map (λ word. word.now) words
 pub data Wanted : Type 0 where
   rows : List ℕ → Wanted
   create : List ℕ → List ℕ → Wanted
+  run : List ℕ → List ℕ → Wanted
 
 abbrev pub wanted : Command → Wanted
 wanted (Rows table) = rows table.now
 wanted (Create table schema) = create table.now schema.now
+wanted (Run table script) = run table.now script.now
 
 -- the name of a table's folder, which is a path below the working folder of at most 4,096 bytes
 abbrev pub is_table : List ℕ → Bool
@@ -40,10 +42,25 @@ table_of app words = table_named (option_of app (codes "table") words)
 abbrev pub rows_of : List (List ℕ) → Option Wanted
 rows_of words = option_map rows (table_of rows_app words)
 
+-- a table and a file, where both options have a value and the table's is in form
+abbrev pub both_named : Option (List ℕ) → Option (List ℕ) → Option (List ℕ × List ℕ)
+both_named table file = option_and_then (λ t. option_map (λ f. (t, f)) file) (table_named table)
+
+abbrev pub both_of : App → List ℕ → List (List ℕ) → Option (List ℕ × List ℕ)
+both_of app file words = both_named (option_of app (codes "table") words) (option_of app file words)
+
 abbrev pub create_of : List (List ℕ) → Option Wanted
-create_of words = option_and_then (λ table. option_map (create table) (option_of create_app (codes "schema") words)) (table_of create_app words)
+create_of words = option_map (λ both. create both.0 both.1) (both_of create_app (codes "schema") words)
+
+abbrev pub run_of : List (List ℕ) → Option Wanted
+run_of words = option_map (λ both. run both.0 both.1) (both_of run_app (codes "script") words)
+
+abbrev pub is_word : List ℕ → List ℕ → Bool
+is_word name word = pointwise nat_eq name word
 
 -- The first word is the command, and the others are its options.
 unfoldable pub command_of : List (List ℕ) → Option Wanted
 command_of [] = None
-command_of (name ∷ options) = if pointwise nat_eq name (codes "rows") then rows_of (name ∷ options) else (if pointwise nat_eq name (codes "create") then create_of (name ∷ options) else None)
+command_of (name ∷ options) =
+    if is_word name (codes "rows") then rows_of (name ∷ options)
+    else (if is_word name (codes "create") then create_of (name ∷ options) else (if is_word name (codes "run") then run_of (name ∷ options) else None))

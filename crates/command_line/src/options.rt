@@ -1,7 +1,7 @@
 // The options of a command, read by clap.
 ghost use Rattle.std.specs.Prelude.{◌≡◌, ℕ, List, true, false, None, Some, IfOk, IsErrOf};
 ghost use Rattle.clap.specs.Words.{app_of, first_value, found_of, is_simple_and_free, rule_of, with_rule};
-ghost use Rattle.command_line.specs.Options.{plain_app, needed, rows_app, create_app};
+ghost use Rattle.command_line.specs.Options.{plain_app, needed, rows_app, create_app, file_app, run_app};
 ghost use Rattle.command_line.specs.Words.{texts, option_of};
 
 use crate::WordsFault;
@@ -36,8 +36,23 @@ fn with_needed<'a>(
 pub(crate) fn create_command<'a>(alloc: Global) -> Result<Command<'a>, AllocError>
     ensures { IfOk result (λ command. app_of command ≡ create_app) }
 {
-    let command = with_needed(alloc, plain_command(alloc, "create"), "table")?;
-    with_needed(alloc, command, "schema")
+    file_command(alloc, "create", "schema")
+}
+
+/// The command `run`.
+#[tactic(auto, unfolding(crate::specs::Options::run_app))]
+pub(crate) fn run_command<'a>(alloc: Global) -> Result<Command<'a>, AllocError>
+    ensures { IfOk result (λ command. app_of command ≡ run_app) }
+{
+    file_command(alloc, "run", "script")
+}
+
+// A command of a table and a file.
+fn file_command<'a>(alloc: Global, name: &'a str, file: &'a str) -> Result<Command<'a>, AllocError>
+    ensures { IfOk result (λ command. app_of command ≡ file_app name.entry.now file.entry.now) }
+{
+    let command = with_needed(alloc, plain_command(alloc, name), "table")?;
+    with_needed(alloc, command, file)
 }
 
 /// The options that the words give to a command.

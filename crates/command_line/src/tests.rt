@@ -32,11 +32,27 @@ fn words_that_are_in_the_form_of_create_name_a_table_and_a_schema(
 }
 
 #[test]
+fn words_that_are_in_the_form_of_run_name_a_table_and_a_script(
+    rt: HostRuntime,
+) -> Result<(), Fail> {
+    let words = ["run", "--script", "s.sql", "--table=k/t"];
+    match read_words(rt.alloc(), &words) {
+        Ok(Command::Run { table, script }) => {
+            assert_eq!(rt; table, "k/t");
+            assert_eq!(rt; script, "s.sql");
+        }
+        _ => panic!(rt; "refused"),
+    }
+    Ok(())
+}
+
+#[test]
 fn other_words_are_no_command(rt: HostRuntime) {
     let alloc = rt.alloc();
-    let bad: [&[&str]; 17] = [
+    let bad: [&[&str]; 18] = [
         &[],
         &["run", "--table", "a"],
+        &["run", "--table", "a", "--schema", "s"],
         &["rows"],
         &["create", "--table", "a"],
         &["create", "--table", "a/", "--schema", "s"],

@@ -1,8 +1,8 @@
 ghost use Rattle.std.specs.Prelude.{◌≡◌, Some, None, IfOk, IsErrOf, codes};
 ghost use Rattle.clap.specs.Words.{first_value, found_of};
-ghost use Rattle.command_line.specs.Words.{command_of, create_of, is_table, rows_of, table_named, texts, wanted};
+ghost use Rattle.command_line.specs.Words.{both_named, command_of, create_of, is_table, rows_of, run_of, table_named, texts, wanted};
 
-use crate::options::{create_command, options_of, rows_command, value_of};
+use crate::options::{create_command, options_of, rows_command, run_command, value_of};
 use clap::ArgMatches;
 use plain_types::is_path;
 use std::alloc::{AllocError, Global};
@@ -14,6 +14,8 @@ pub enum Command<'a> {
     Rows { table: &'a str },
     /// `create --table T --schema F` makes a table by a schema file.
     Create { table: &'a str, schema: &'a str },
+    /// `run --table T --script F` runs the statements of a script on a table.
+    Run { table: &'a str, script: &'a str },
 }
 
 /// Why the words ask for nothing.
@@ -53,6 +55,9 @@ pub fn read_words<'a>(alloc: Global, words: &'a [&'a str]) -> Result<Command<'a>
     if *name == "create" {
         return read_create(alloc, words);
     }
+    if *name == "run" {
+        return read_run(alloc, words);
+    }
     Err(WordsFault::Usage)
 }
 
@@ -72,12 +77,34 @@ fn read_create<'a>(alloc: Global, words: &'a [&'a str]) -> Result<Command<'a>, W
     ensures usage { IsErrOf result WordsFault.Usage → create_of (texts words.entry.now) ≡ None }
 {
     let options = options_of(create_command(alloc)?, words)?;
-    let table = match table_of(&options) {
+    match both_of(&options, "schema") {
+        Ok((table, schema)) => Ok(Command::Create { table, schema }),
+        Err(fault) => Err(fault),
+    }
+}
+
+fn read_run<'a>(alloc: Global, words: &'a [&'a str]) -> Result<Command<'a>, WordsFault>
+    ensures found { IfOk result (λ command. run_of (texts words.entry.now) ≡ Some (wanted command)) }
+    ensures usage { IsErrOf result WordsFault.Usage → run_of (texts words.entry.now) ≡ None }
+{
+    let options = options_of(run_command(alloc)?, words)?;
+    match both_of(&options, "script") {
+        Ok((table, script)) => Ok(Command::Run { table, script }),
+        Err(fault) => Err(fault),
+    }
+}
+
+// The table and the file that the options name.
+fn both_of<'a>(options: &ArgMatches<'a>, file: &str) -> Result<(&'a str, &'a str), WordsFault>
+    ensures found { IfOk result (λ both. both_named (first_value (found_of options.now) (codes "table")) (first_value (found_of options.now) file.now) ≡ Some (both.0.now, both.1.now)) }
+    ensures usage { IsErrOf result WordsFault.Usage → both_named (first_value (found_of options.now) (codes "table")) (first_value (found_of options.now) file.now) ≡ None }
+{
+    let table = match table_of(options) {
         Ok(table) => table,
         Err(fault) => return Err(fault),
     };
-    match value_of(&options, "schema") {
-        Ok(schema) => Ok(Command::Create { table, schema }),
+    match value_of(options, file) {
+        Ok(file) => Ok((table, file)),
         Err(fault) => Err(fault),
     }
 }

@@ -1,6 +1,5 @@
 //! The rules of conflicts.
 ghost use Rattle.std.specs.Prelude.{◌≡◌, IfOk, option_map};
-ghost use Rattle.table_state.specs.Live.{data_files_of};
 ghost use Rattle.conflict_rules.specs.Verdict.{conflict_by, gained, is_absent, lost, of_branch, of_files, verdict};
 
 use crate::paths::least_missing;
@@ -9,21 +8,12 @@ use manifest_files::Entry;
 use plain_types::Text;
 use report_lines::{Rule, Said};
 use std::alloc::{AllocError, Global};
-use table_state::BranchState;
+use table_state::{BranchState, data_files_of};
 
 fn is_absent(head: &BranchState) -> bool
     ensures { result ≡ is_absent head.now }
 {
     matches!(head, BranchState::Absent)
-}
-
-fn data_files_of(head: &BranchState) -> &[Entry]
-    ensures { result.now ≡ data_files_of head.now }
-{
-    match head {
-        BranchState::Head { live, .. } => live.data_files.as_slice(),
-        BranchState::Absent | BranchState::Empty => &[],
-    }
 }
 
 // A conflict by the rule, where there is such a file.

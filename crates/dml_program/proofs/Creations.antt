@@ -23,7 +23,7 @@ first_is table name files inputs now bytes a given place asks =
 
 -- what the bytes are where a call stopped
 pub stopped : (failed : Type 0) (table : List ℕ) (files : Files) (wanted : Result (List ℕ) Status) (s : Status) → Stops failed wanted s → Carries failed (create_answer table files wanted) s
-stopped failed table files wanted (status.ScriptBad line kind) e = ap (create_answer table files) e
+stopped failed table files wanted (status.ScriptBad line sort) e = ap (create_answer table files) e
 stopped failed table files wanted (status.TableBad kind path) e = ap (create_answer table files) e
 stopped failed table files wanted status.StoreFailed e = tt
 stopped failed table files wanted (status.InputFailed name) (inl rose) = inl rose
@@ -31,6 +31,7 @@ stopped failed table files wanted (status.InputFailed name) (inr e) = inr (ap (c
 stopped failed table files wanted (status.StateUnknown session number) e = tt
 stopped failed table files wanted status.Memory e = tt
 stopped failed table files wanted status.Done e = absurd e
+stopped failed table files wanted status.Refused e = absurd e
 stopped failed table files wanted status.Usage e = absurd e
 stopped failed table files wanted status.OutputFailed e = absurd e
 
@@ -51,8 +52,9 @@ carries_by failed table files wanted text s is carried = lifted s (subst (λ w. 
   where
     lifted : (s : Status) → Carries ⊥ (create_answer table files wanted) s → Carries failed (create_answer table files wanted) s
     lifted status.Done c = c
+    lifted status.Refused c = c
     lifted status.Usage c = c
-    lifted (status.ScriptBad line kind) c = c
+    lifted (status.ScriptBad line sort) c = c
     lifted (status.TableBad kind path) c = c
     lifted status.StoreFailed c = c
     lifted (status.InputFailed name) (inl none) = absurd none

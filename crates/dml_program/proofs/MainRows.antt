@@ -1,5 +1,5 @@
 -- What is printed of a plain table are the rows of its branch `main`.
-use Rattle.std.proofs.Common.{◌≡◌, ℕ, ℤ, List, [], ◌∷◌, ◌++◌, Bool, true, false, cond, ◌&&◌, Option, Some, None, Result, Ok, Err, codes, filter, refl, ap, ◌∙◌}
+use Rattle.std.proofs.Common.{◌≡◌, ℕ, ℤ, List, [], ◌∷◌, ◌++◌, Bool, true, false, cond, ◌&&◌, Option, Some, None, Result, Ok, Err, codes, filter, refl, ap, subst, ◌∙◌}
 use Rattle.std.specs.FinMap as map
 use Rattle.std.specs.List.{list_all}
 use Rattle.std.proofs.lemmas.List.Elements.{filter-append}
@@ -25,19 +25,19 @@ use Rattle.dml_program.specs.PlainTable.{or_path, if_form, plain_list, plain_man
 -- ---- steps
 
 -- the same value under another fault
-unfault : {A E F : Type 0} (f : E → F) (r : Result A E) (a : A) → fault_as f r ≡ Ok a → r ≡ Ok a
+pub unfault : {A E F : Type 0} (f : E → F) (r : Result A E) (a : A) → fault_as f r ≡ Ok a → r ≡ Ok a
 unfault f (Ok b) a e = cc
 unfault f (Err x) a e = cc
 
-refault : {A E F : Type 0} (f : E) (g : F) (o : Option A) (a : A) → or_fault f o ≡ Ok a → or_fault g o ≡ Ok a
+pub refault : {A E F : Type 0} (f : E) (g : F) (o : Option A) (a : A) → or_fault f o ≡ Ok a → or_fault g o ≡ Ok a
 refault f g (Some b) a e = cc
 refault f g None a e = cc
 
-formed : {A : Type 0} (path : List ℕ) (a : A) (b : Bool) (x : A) → if_form path a b ≡ Ok x → (a ≡ x) × (b ≡ true)
+pub formed : {A : Type 0} (path : List ℕ) (a : A) (b : Bool) (x : A) → if_form path a b ≡ Ok x → (a ≡ x) × (b ≡ true)
 formed path a true x e = (cc, refl)
 formed path a false x e = cc
 
-then_ok : {A B E : Type 0} (r : Result A E) (f : A → Result B E) (a : A) → r ≡ Ok a → (r >>= f) ≡ f a
+pub then_ok : {A B E : Type 0} (r : Result A E) (f : A → Result B E) (a : A) → r ≡ Ok a → (r >>= f) ≡ f a
 then_ok r f a e = ap (λ s. s >>= f) e
 
 abbrev read_as : {A : Type 0} → A → Result A (List ℕ)
@@ -123,13 +123,13 @@ module _ (table : List ℕ) (parts : Parts) (files : Files) where
   unfolding plain_main rows_at branch_at
   read_main name rows e = main_found name (head_of (codes "main") parts.refs) rows e
 
-read_metadata : (name : List ℕ) (version : ℕ) (bytes : List ℕ) (parts : Parts) → plain_metadata name version bytes ≡ Ok parts → metadata_of bytes ≡ Ok parts
+pub read_metadata : (name : List ℕ) (version : ℕ) (bytes : List ℕ) (parts : Parts) → plain_metadata name version bytes ≡ Ok parts → metadata_of bytes ≡ Ok parts
 unfolding plain_metadata
 read_metadata name version bytes parts e =
     let s = two_steps (or_path name (metadata_of bytes)) (λ found. if_form name found (has_form version found)) parts e in
     unfault (λ g. name) (metadata_of bytes) s.0 s.1 ∙ ap Ok (formed name s.0 (has_form version s.0) parts s.2).0
 
-read_version : (table : List ℕ) (version : ℕ) (files : Files) (rows : List (List Value)) → plain_version table version files ≡ Ok rows → rows_of_branch table version (codes "main") files ≡ Ok rows
+pub read_version : (table : List ℕ) (version : ℕ) (files : Files) (rows : List (List Value)) → plain_version table version files ≡ Ok rows → rows_of_branch table version (codes "main") files ≡ Ok rows
 unfolding plain_version rows_of_branch version_at
 read_version table version files rows e =
     let name = version_name table version in
@@ -139,11 +139,35 @@ read_version table version files rows e =
     (then_ok (bytes_under name name files) (λ bytes. fault_as fault.Metadata (metadata_of bytes)) s.0 (refault name (fault.Missing name) (map.get files name) s.0 s.1) ∙ ap (fault_as fault.Metadata) (read_metadata name version s.0 t.0 t.1))
     ∙ read_main table t.0 files name rows t.2
 
-of_current : (table : List ℕ) (files : Files) (rows : List (List Value)) (current : Option ℕ) → version_of table files ≡ current → by_option current (λ version. fault_as {F = Fault} (λ path. (Later, path)) (plain_version table version files)) (Err (NoVersion, table)) ≡ Ok rows
-    → (version : ℕ) × (version_of table files ≡ Some version) × (rows_of_branch table version (codes "main") files ≡ Ok rows)
-of_current table files rows (Some version) is e = (version, is, read_version table version files rows (unfault {F = Fault} (λ path. (Later, path)) (plain_version table version files) rows e))
-of_current table files rows None is e = cc
+-- the metadata that is read for the rows is the version's, and of the form that is read
+pub version_is : (table : List ℕ) (version : ℕ) (files : Files) (name bytes : List ℕ) (parts : Parts) → name ≡ version_name table version → or_fault name (map.get files name) ≡ Ok bytes → plain_metadata name version bytes ≡ Ok parts → version_at table version files ≡ Ok parts
+unfolding version_at
+version_is table version files name bytes parts is there read =
+    let named = version_name table version in
+    let stands : bytes_under named named files ≡ Ok bytes = subst (λ (n : List ℕ). or_fault (fault.Missing n) (map.get files n) ≡ Ok bytes) is (refault name (fault.Missing name) (map.get files name) bytes there) in
+    then_ok (bytes_under named named files) (λ b. fault_as fault.Metadata (metadata_of b)) bytes stands ∙ ap (fault_as fault.Metadata) (read_metadata name version bytes parts read)
+
+pub form_is : (table : List ℕ) (version : ℕ) (files : Files) (rows : List (List Value)) → plain_version table version files ≡ Ok rows → (parts : Parts) × (version_at table version files ≡ Ok parts) × (has_form version parts ≡ true)
+unfolding plain_version plain_metadata
+form_is table version files rows e =
+    let name = version_name table version in
+    let s = two_steps (or_fault name (map.get files name)) (λ bytes. plain_metadata name version bytes >>= λ parts. plain_main name table parts files) rows e in
+    let t = two_steps (plain_metadata name version s.0) (λ parts. plain_main name table parts files) rows s.2 in
+    let u = two_steps (or_path name (metadata_of s.0)) (λ found. if_form name found (has_form version found)) t.0 t.1 in
+    let f = formed name u.0 (has_form version u.0) t.0 u.2 in
+    (t.0, version_is table version files name s.0 t.0 refl s.1 t.1, subst (λ (p : Parts). has_form version p ≡ true) f.0 f.1)
+
+-- the current version of a table whose rows can be read
+pub version_of_rows : (table : List ℕ) (files : Files) (rows : List (List Value)) → table_rows table files ≡ Ok rows → (version : ℕ) × (version_of table files ≡ Some version) × (plain_version table version files ≡ Ok rows)
+unfolding table_rows
+version_of_rows table files rows e = of_found table files rows (version_of table files) refl e
+  where
+    of_found : (table : List ℕ) (files : Files) (rows : List (List Value)) (current : Option ℕ) → version_of table files ≡ current → by_option current (λ version. fault_as {F = Fault} (λ path. (Later, path)) (plain_version table version files)) (Err (NoVersion, table)) ≡ Ok rows
+        → (version : ℕ) × (version_of table files ≡ Some version) × (plain_version table version files ≡ Ok rows)
+    of_found table files rows (Some version) is e = (version, is, unfault {F = Fault} (λ path. (Later, path)) (plain_version table version files) rows e)
+    of_found table files rows None is e = cc
 
 pub rows_of_main : (table : List ℕ) (files : Files) (rows : List (List Value)) → table_rows table files ≡ Ok rows → (version : ℕ) × (version_of table files ≡ Some version) × (rows_of_branch table version (codes "main") files ≡ Ok rows)
-unfolding table_rows
-rows_of_main table files rows e = of_current table files rows (version_of table files) refl e
+rows_of_main table files rows e =
+    let found = version_of_rows table files rows e in
+    (found.0, found.1, read_version table found.0 files rows found.2)

@@ -68,8 +68,9 @@ first_version_of table name files inputs now = do
 -- the status of a call that stopped where this is wanted; an input fails where that is wanted, or where a read failed
 abbrev pub Stops : {A : Type 0} → Type 0 → Result A Status → Status → Type 0
 Stops failed wanted status.Done = ⊥
+Stops failed wanted status.Refused = ⊥
 Stops failed wanted status.Usage = ⊥
-Stops failed wanted (status.ScriptBad line kind) = wanted ≡ Err (status.ScriptBad line kind)
+Stops failed wanted (status.ScriptBad line reason) = wanted ≡ Err (status.ScriptBad line reason)
 Stops failed wanted (status.TableBad kind path) = wanted ≡ Err (status.TableBad kind path)
 Stops failed wanted status.StoreFailed = Unit {0}
 Stops failed wanted (status.InputFailed name) = failed ⊎ (wanted ≡ Err (status.InputFailed name))

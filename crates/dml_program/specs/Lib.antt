@@ -1,6 +1,8 @@
 pub mod Answers
+pub mod Beginning
 pub mod Causes
 pub mod Creating
 pub mod Opening
 pub mod PlainTable
+pub mod ScriptRuns
 pub mod Statuses

@@ -6,7 +6,7 @@ ghost use Rattle.store_core.specs.Files.{Files, KeepsFiles};
 ghost use Rattle.table_definition.specs.Definition.{asked, definition_of};
 ghost use Rattle.table_names.specs.Versions.{version_of};
 ghost use Rattle.dml_program.specs.Answers.{AllTold, Carries, Leaves, Prints, create_answer, so_far};
-ghost use Rattle.dml_program.specs.Causes.{HasInputCause, HasStoreCause, IsFormStop, IsSettled, IsStop};
+ghost use Rattle.dml_program.specs.Causes.{HasInputCause, HasStoreCause, IsFormStop, IsSettled, IsStop, IsUnbegun};
 ghost use Rattle.dml_program.specs.Opening.{IsRefusal};
 ghost use Rattle.dml_program.specs.Creating.{Stops, asked_by, bad_file, file_given, first_version_of, has_no_version, if_plain, is_not_compressed, is_plain, may_be_made};
 
@@ -78,12 +78,17 @@ fn first_version<S: Store, I: Inputs, C: Clock>(
     Ok(first_text(alloc, &definition, table, now)?)
 }
 
-// Reads a script or a schema file, and gives nothing of one that is too long.
-fn read_file<I: Inputs>(alloc: Global, inputs: &mut I, name: &str) -> Result<Option<Blob>, Status>
+/// Reads a script or a schema file, and gives nothing of one that is too long.
+pub(crate) fn read_file<I: Inputs>(
+    alloc: Global,
+    inputs: &mut I,
+    name: &str,
+) -> Result<Option<Blob>, Status>
     ensures found { IfOk result (λ bytes. ForSome (I.contents inputs.old) (λ given. file_given name.now given ≡ Ok bytes)) }
     ensures refused { IfErr result (λ status. ForSome (I.contents inputs.old) (λ given. Stops (Rose (I.faults inputs.old) (I.faults inputs.new)) (file_given name.now given) status)) }
     ensures contents { I.contents inputs.new ≡ I.contents inputs.old }
     ensures kind { IfErr result IsStop }
+    ensures before { IfErr result IsUnbegun }
     ensures store { IfErr result (λ status. (before now unsettled : ℕ) → HasStoreCause status before now unsettled) }
     ensures input { IfErr result (λ status. HasInputCause status (I.contents inputs.old) (I.faults inputs.old) (I.faults inputs.new)) }
     ensures quiet { OnOk result (I.faults inputs.new ≡ I.faults inputs.old) }

@@ -2,11 +2,13 @@
 //! inputs, output and clock.
 #![tactic(auto)]
 
+mod begin;
 mod create;
 mod laws;
 mod open;
 mod report;
 mod run;
+mod script_run;
 mod status;
 
 pub use laws::printed_rows_are_those_of_main;

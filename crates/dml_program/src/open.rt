@@ -7,8 +7,10 @@ ghost use Rattle.plain_types.specs.Causes.{Rose};
 ghost use Rattle.plain_types.specs.Steps.{or_fault};
 ghost use Rattle.std.specs.FinMap as map;
 ghost use Rattle.table_metadata.specs.Metadata.{parts};
+ghost use Rattle.table_state.specs.Files.{version_at};
 ghost use Rattle.table_state.specs.Live.{is_data, is_live};
 ghost use Rattle.table_form.specs.Form.{is_data_manifest};
+ghost use Rattle.dml_program.specs.Beginning.{opened_at};
 ghost use Rattle.dml_program.specs.Opening.{IsRefusal, Refuses, RefusesTable, load_status, table_rows};
 ghost use Rattle.dml_program.specs.PlainTable.{if_form, plain_entries, plain_file, plain_list, plain_main, plain_manifest, plain_metadata, plain_rows, plain_snapshot, plain_version};
 
@@ -36,7 +38,8 @@ fn load_status(path: Text, fault: LoadFault) -> Status
     }
 }
 
-fn later(path: Text) -> Status
+/// The status of a file that is missing or not of a form that is read yet.
+pub(crate) fn later(path: Text) -> Status
     ensures { result ≡ Status.TableBad TableKind.Later path }
 {
     Status::TableBad {
@@ -277,14 +280,24 @@ fn read_name<S: Store>(alloc: Global, store: &mut S, name: &str) -> Result<Blob,
     }
 }
 
+/// A table whose rows can be read.
+#[derive(Drop)]
+pub(crate) struct Opened {
+    pub version: u32,
+    pub metadata: Metadata,
+    pub rows: Vec<Row>,
+}
+
 #[tactic(auto, unfolding(crate::specs::PlainTable::plain_version))]
 fn plain_version<S: Store>(
     alloc: Global,
     store: &mut S,
     table: &str,
     version: u32,
-) -> Result<Vec<Row>, Status>
-    ensures found { IfOk result (λ rows. ForSome (S.files store.old) (λ files. plain_version table.now version files ≡ Ok rows.items)) }
+) -> Result<Opened, Status>
+    ensures found { IfOk result (λ opened. ForSome (S.files store.old) (λ files. plain_version table.now version files ≡ Ok opened.rows.items)) }
+    ensures metadata { IfOk result (λ opened. ForSome (S.files store.old) (λ files. version_at table.now version files ≡ Ok (parts opened.metadata))) }
+    ensures version { IfOk result (λ opened. opened.version ≡ version) }
     ensures refused { IfErr result (λ status. ForSome (S.files store.old) (λ files. Refuses (plain_version table.now version files) status)) }
     ensures kind { IfErr result IsRefusal }
     ensures store_failed { IsErrOf result Status.StoreFailed → Rose (S.faults store.old) (S.faults store.new) × (0 < S.unsettled store.new) }
@@ -294,17 +307,49 @@ fn plain_version<S: Store>(
     let name = version_name(alloc, table, version)?;
     let bytes = read_name(alloc, store, name.as_str())?;
     let metadata = plain_metadata(alloc, name.as_str(), version, bytes.as_slice())?;
-    plain_main(alloc, store, table, &metadata, name.as_str())
+    let rows = plain_main(alloc, store, table, &metadata, name.as_str())?;
+    Ok(Opened {
+        version,
+        metadata,
+        rows,
+    })
 }
 
 /// The rows of `main` at a table's current version, or what is wrong with the table.
-#[tactic(auto, unfolding(crate::specs::Opening::table_rows))]
 pub(crate) fn table_rows<S: Store>(
     alloc: Global,
     store: &mut S,
     table: &str,
 ) -> Result<Vec<Row>, Status>
     ensures found { IfOk result (λ rows. ForSome (S.files store.old) (λ files. table_rows table.now files ≡ Ok rows.items)) }
+    ensures refused { IfErr result (λ status. ForSome (S.files store.old) (λ files. RefusesTable (table_rows table.now files) status)) }
+    ensures kind { IfErr result IsRefusal }
+    ensures store_failed { IsErrOf result Status.StoreFailed → Rose (S.faults store.old) (S.faults store.new) × (0 < S.unsettled store.new) }
+    ensures quiet { OnOk result (S.faults store.new ≡ S.faults store.old) }
+    ensures files { S.files store.new ≡ S.files store.old }
+{
+    match open_table(alloc, store, table) {
+        Ok(opened) => Ok(rows_of(opened)),
+        Err(status) => Err(status),
+    }
+}
+
+fn rows_of(opened: Opened) -> Vec<Row>
+    ensures { result ≡ opened.rows }
+{
+    let Opened { rows, .. } = opened;
+    rows
+}
+
+/// A table's current version and its rows, or what is wrong with the table.
+#[tactic(auto, unfolding(crate::specs::Opening::table_rows))]
+pub(crate) fn open_table<S: Store>(
+    alloc: Global,
+    store: &mut S,
+    table: &str,
+) -> Result<Opened, Status>
+    ensures found { IfOk result (λ opened. ForSome (S.files store.old) (λ files. table_rows table.now files ≡ Ok opened.rows.items)) }
+    ensures opened { IfOk result (λ opened. ForSome (S.files store.old) (λ files. opened_at table.now files ≡ Ok (opened.version, parts opened.metadata))) }
     ensures refused { IfErr result (λ status. ForSome (S.files store.old) (λ files. RefusesTable (table_rows table.now files) status)) }
     ensures kind { IfErr result IsRefusal }
     ensures store_failed { IsErrOf result Status.StoreFailed → Rose (S.faults store.old) (S.faults store.new) × (0 < S.unsettled store.new) }

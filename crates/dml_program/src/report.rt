@@ -19,7 +19,9 @@ pub(crate) fn fault_lines(alloc: Global, status: &Status) -> Result<Vec<u8>, All
         Status::StoreFailed => line(alloc, "fault store"),
         Status::InputFailed { name } => input_line(alloc, name.as_str()),
         Status::StateUnknown { session, number } => unknown_line(alloc, session.as_str(), *number),
-        Status::Done | Status::OutputFailed | Status::Memory => Ok(Vec::new(alloc)),
+        Status::Done | Status::Refused | Status::OutputFailed | Status::Memory => {
+            Ok(Vec::new(alloc))
+        }
     }
 }
 
@@ -45,6 +47,10 @@ fn script_text(kind: ScriptKind) -> &'static str
     match kind {
         ScriptKind::Text => "text",
         ScriptKind::Limit => "limit",
+        ScriptKind::Token => "token",
+        ScriptKind::Form => "form",
+        ScriptKind::Name => "name",
+        ScriptKind::Kind => "kind",
         ScriptKind::Schema => "schema",
         ScriptKind::Later => "later",
     }
@@ -81,6 +87,7 @@ fn kind_text(kind: TableKind) -> &'static str
         TableKind::NoVersion => "no-version",
         TableKind::Exists => "exists",
         TableKind::Later => "later",
+        TableKind::Limit => "limit",
     }
 }
 

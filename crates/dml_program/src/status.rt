@@ -14,6 +14,8 @@ pub enum TableKind {
     Exists,
     /// A file is missing or not of a form that is read yet. The path is the file's.
     Later,
+    /// Its current version has no next one. The path is the version's.
+    Limit,
 }
 
 /// What is wrong with a script or a schema file.
@@ -21,8 +23,16 @@ pub enum TableKind {
 pub enum ScriptKind {
     /// Its bytes are not UTF-8.
     Text,
-    /// It is longer than 1 MiB.
+    /// It, or something in it, is longer than the limit.
     Limit,
+    /// A byte begins no word, or a string or a name does not end.
+    Token,
+    /// The words are in no form of an item.
+    Form,
+    /// The table has no such column.
+    Name,
+    /// A value is not one of its column's kind.
+    Kind,
     /// It is no schema file.
     Schema,
     /// It asks for something that is not made yet.
@@ -33,12 +43,14 @@ pub enum ScriptKind {
 #[derive(Debug, PartialEq, Drop)]
 pub enum Status {
     Done,
+    /// The script was run to its end, and a statement of it was refused.
+    Refused,
     /// The words are in the form of no command.
     Usage,
     /// The script or the schema file is not in form, which shows at this line, counted from 1.
     ScriptBad { line: u32, kind: ScriptKind },
     TableBad { kind: TableKind, path: Text },
-    /// The store failed, and no version came of it.
+    /// The store failed, and no version came of that call.
     StoreFailed,
     /// The script or the schema file of this name is missing, or its read failed.
     InputFailed { name: Text },
@@ -58,6 +70,7 @@ impl Status {
     {
         match self {
             Status::Done => 0,
+            Status::Refused => 1,
             Status::Usage => 2,
             Status::ScriptBad { .. } => 3,
             Status::TableBad { .. } => 4,

@@ -11,7 +11,7 @@ use store_core::{
 
 const CREATE: [&str; 5] = ["create", "--table", "h", "--schema", "s.json"];
 
-const SCHEMA: &[u8] = b"{\"schema\":{\"type\":\"struct\",\"schema-id\":0,\"fields\":[
+pub(crate) const SCHEMA: &[u8] = b"{\"schema\":{\"type\":\"struct\",\"schema-id\":0,\"fields\":[
 {\"id\":1,\"name\":\"id\",\"required\":true,\"type\":\"long\"},
 {\"id\":2,\"name\":\"name\",\"required\":false,\"type\":\"string\",\"doc\":\"who\"}]}}";
 

@@ -9,3 +9,5 @@ mod created_tables;
 mod sample_files;
 #[cfg(test)]
 mod sample_tables;
+#[cfg(test)]
+mod script_runs;

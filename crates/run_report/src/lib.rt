@@ -10,4 +10,4 @@ mod tests;
 
 pub use refusals::is_refused;
 pub use rows::{push_line, push_rows};
-pub use steps::{push_branch, push_step, push_steps};
+pub use steps::{name_of, push_branch, push_step, push_steps};

@@ -55,8 +55,8 @@ pub fn push_branch(
     push_ended(text.as_bytes(), out)
 }
 
-// The name of the session of this number, which is empty where no name stands at it.
-fn name_of(names: &[Text], session: usize) -> &str
+/// The name of the session of this number, which is empty where no name stands at it.
+pub fn name_of(names: &[Text], session: usize) -> &str
     ensures { result.now ≡ name_of names.now session }
 {
     match names.get(session) {

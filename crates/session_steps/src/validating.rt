@@ -4,7 +4,6 @@ ghost use Rattle.std.specs.Option.{ForSome};
 ghost use Rattle.plain_types.specs.Causes.{HasCause};
 ghost use Rattle.store_core.specs.Files.{Files, KeepsFiles};
 ghost use Rattle.file_names.specs.FileNames.{NoneFrom};
-ghost use Rattle.table_state.specs.Live.{data_files_of};
 ghost use Rattle.sql_statements.specs.Tables.{branch_of};
 ghost use Rattle.session_machine.specs.Machine.{validate_turn};
 ghost use Rattle.session_work.specs.Open.{IsOpen};
@@ -22,22 +21,12 @@ ghost use Rattle.branch_validation.specs.declared.found.Found.TheVariants as fou
 use crate::fault::{RunFault, commit_fault};
 use crate::session::{NAMES_END, Session};
 use branch_validation::{Found, Validated, validate};
-use manifest_files::Entry;
 use plain_types::Text;
 use report_lines::{Answer, EventKind, Said, Stepped};
 use session_machine::{Phase, Place};
 use std::alloc::{AllocError, Global};
 use store_core::Store;
-use table_state::BranchState;
-
-fn data_files_of(head: &BranchState) -> &[Entry]
-    ensures { result.now ≡ data_files_of head.now }
-{
-    match head {
-        BranchState::Head { live, .. } => live.data_files.as_slice(),
-        BranchState::Absent | BranchState::Empty => &[],
-    }
-}
+use table_state::data_files_of;
 
 // What is found for the session.
 fn take(alloc: Global, session: &mut Session, validated: Validated) -> Result<Stepped, AllocError>

@@ -15,16 +15,7 @@ use sql_predicates::Pred;
 use std::alloc::Global;
 use store_core::Store;
 use table_load::State;
-use table_state::{BranchState, LoadFault, read_data_file_at};
-
-fn data_files_of(head: &BranchState) -> &[Entry]
-    ensures { result.now ≡ data_files_of head.now }
-{
-    match head {
-        BranchState::Head { live, .. } => live.data_files.as_slice(),
-        BranchState::Absent | BranchState::Empty => &[],
-    }
-}
+use table_state::{LoadFault, data_files_of, read_data_file_at};
 
 #[tactic(auto, unfolding(crate::specs::Scanning::file_at))]
 fn read_file<S: Store>(

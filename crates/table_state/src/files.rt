@@ -36,9 +36,9 @@ fn read_name<S: Store>(
     }
 }
 
-// The bytes of a path.
+/// The bytes of a path, of a table with this location in this folder.
 #[tactic(auto, unfolding(crate::specs::Files::file_at))]
-fn read_file<S: Store>(
+pub fn read_file<S: Store>(
     alloc: Global,
     store: &mut S,
     table: &str,

@@ -1,3 +1,6 @@
+ghost use Rattle.std.specs.Prelude.{◌≡◌};
+ghost use Rattle.table_state.specs.Live.{data_files_of};
+
 use manifest_files::{Entry, ManifestRow};
 use plain_types::List;
 
@@ -20,4 +23,14 @@ pub enum BranchState {
         manifests: List<ManifestRow>,
         live: LiveSet,
     },
+}
+
+/// The data files of a branch.
+pub fn data_files_of(head: &BranchState) -> &[Entry]
+    ensures { result.now ≡ data_files_of head.now }
+{
+    match head {
+        BranchState::Head { live, .. } => live.data_files.as_slice(),
+        BranchState::Absent | BranchState::Empty => &[],
+    }
 }

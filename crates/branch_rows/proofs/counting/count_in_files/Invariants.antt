@@ -1,13 +1,13 @@
 use Rattle.std.proofs.Common.{◌≡◌, length}
 use Rattle.std.specs.Option.{ForSome}
 use Rattle.table_metadata.specs.Metadata.{parts}
-use Rattle.branch_rows.specs.Rows.{counted_from}
+use Rattle.branch_rows.proofs.CountLaws.{Counts}
 use Rattle.branch_rows.proofs.counting.count_in_files.Given as goal
 
--- the files that are left, with the rows that are counted, give the same
+-- the files that are left, behind the rows that are counted, give the same
 abbrev pub invariant-loop-rest : goal.invariant-loop-rest
 invariant-loop-rest g l = record {
-  same : ForSome (g.S.Store.files l.initial.store) (λ files. counted_from l.table (parts l.metadata) l.count l.rest files ≡ counted_from l.table (parts l.metadata) 0 l.entries files);
+  counts : ForSome (g.S.Store.files l.initial.store) (λ files. Counts l.table (parts l.metadata) l.entries files l.count l.rest);
   files : g.S.Store.files l.store ≡ g.S.Store.files l.initial.store;
   faults : g.S.Store.faults l.store ≡ g.S.Store.faults l.initial.store;
 }
