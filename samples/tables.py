@@ -52,17 +52,24 @@ def encode(schema, value):
     raise ValueError(kind)
 
 
-def container(schema, blocks, meta=()):
-    pairs = [("avro.schema", json.dumps(schema, separators=(",", ":")).encode()), ("avro.codec", b"null")]
-    pairs += [(k, v.encode()) for k, v in meta]
-    out = bytearray(b"Obj\x01" + long(len(pairs)))
+def header(*pairs):
+    """The header of a file with these keys and values."""
+    out = b"Obj\x01" + long(len(pairs))
     for key, value in pairs:
         out += octets(key.encode()) + octets(value)
-    out += long(0) + SYNC
-    for block in blocks:
-        data = b"".join(encode(schema, v) for v in block)
-        out += long(len(block)) + long(len(data)) + data + SYNC
-    return bytes(out)
+    return out + long(0) + SYNC
+
+
+def block(count, data):
+    return long(count) + long(len(data)) + data + SYNC
+
+
+def container(schema, blocks, meta=()):
+    pairs = [("avro.schema", json.dumps(schema, separators=(",", ":")).encode()), ("avro.codec", b"null")]
+    out = header(*pairs, *((k, v.encode()) for k, v in meta))
+    for datums in blocks:
+        out += block(len(datums), b"".join(encode(schema, v) for v in datums))
+    return out
 
 
 def optional(kind):
@@ -75,6 +82,19 @@ def field(fid, name, kind):
 
 def record(name, *fields):
     return {"type": "record", "name": name, "fields": list(fields)}
+
+
+def field_with(fid, schema):
+    """The field with this id in a record, or in what it holds."""
+    if isinstance(schema, list):
+        return next(filter(None, (field_with(fid, branch) for branch in schema)), None)
+    if not isinstance(schema, dict):
+        return None
+    for held in schema.get("fields", []):
+        found = held if held["field-id"] == fid else field_with(fid, held["type"])
+        if found:
+            return found
+    return field_with(fid, schema.get("items"))
 
 
 # ---- manifests and lists
@@ -142,18 +162,44 @@ def statistics(columns, rows):
     return {"value_counts": values, "null_value_counts": nulls, "lower_bounds": lower, "upper_bounds": upper}
 
 
-class Table:
-    """A table whose location is its name, with columns given as (id, name, kind, required)."""
+def write(path, data):
+    os.makedirs(os.path.dirname(path) or ".", exist_ok=True)
+    with open(path, "wb") as out:
+        out.write(data)
 
-    def __init__(self, root, name, columns):
+
+def read(path):
+    with open(path, "rb") as held:
+        return held.read()
+
+
+def replace(path, old, new):
+    """Puts other bytes in the place of some that stand once in a file."""
+    data = read(path)
+    if data.count(old) != 1:
+        raise ValueError("%r stands %d times in %s" % (old, data.count(old), path))
+    write(path, data.replace(old, new))
+
+
+def change(path, how):
+    """Changes the object of a JSON file by a function."""
+    held = json.loads(read(path))
+    how(held)
+    write(path, json.dumps(held, separators=(",", ":")).encode())
+
+
+class Table:
+    """A table in a folder below root, with columns given as (id, name, kind, required). Its location is the folder's name
+    where none is given."""
+
+    def __init__(self, root, name, columns, location=None):
         self.root, self.name, self.columns = root, name, columns
+        self.location = name if location is None else location
 
     def write(self, path, data):
-        full = os.path.join(self.root, path)
-        os.makedirs(os.path.dirname(full), exist_ok=True)
-        with open(full, "wb") as out:
-            out.write(data)
-        return path, len(data)
+        """Writes a file of the table: its path, as the table's files tell it, and its size."""
+        write(os.path.join(self.root, self.name, path), data)
+        return "%s/%s" % (self.location, path), len(data)
 
     def data_schema(self):
         kinds = [kind if required else optional(kind) for _, _, kind, required in self.columns]
@@ -164,12 +210,12 @@ class Table:
         names = [c[1] for c in self.columns]
         datums = [dict(zip(names, row)) for row in rows]
         blocks = [datums[i:i + block] for i in range(0, len(datums), block)]
-        path, size = self.write("%s/data/%s" % (self.name, name), container(self.data_schema(), blocks))
+        path, size = self.write("data/%s" % name, container(self.data_schema(), blocks))
         return path, size, len(rows), statistics(self.columns, rows)
 
     def other_file(self, name, schema, blocks, rows):
         """A data file in other columns, of which these rows are read."""
-        path, size = self.write("%s/data/%s" % (self.name, name), container(schema, blocks))
+        path, size = self.write("data/%s" % name, container(schema, blocks))
         return path, size, len(rows), statistics(self.columns, rows)
 
     @staticmethod
@@ -184,7 +230,7 @@ class Table:
 
     def manifest(self, name, entries, seq, snapshot, least=None):
         """A manifest, and its row in a list."""
-        path, size = self.write("%s/metadata/%s" % (self.name, name), container(ENTRY, [entries]))
+        path, size = self.write("metadata/%s" % name, container(ENTRY, [entries]))
         counts = {}
         for status, what in ((0, "existing"), (1, "added"), (2, "deleted")):
             chosen = [e for e in entries if e["status"] == status]
@@ -200,7 +246,7 @@ class Table:
         """A version's metadata; snapshots are (id, parent, sequence number, rows of its list)."""
         listed = []
         for sid, parent, sseq, rows in snapshots:
-            path, _ = self.write("%s/metadata/snap-%d.avro" % (self.name, sid), container(LIST_ROW, [rows] if rows else []))
+            path, _ = self.write("metadata/snap-%d.avro" % sid, container(LIST_ROW, [rows] if rows else []))
             item = {"snapshot-id": sid, "sequence-number": sseq, "timestamp-ms": 1700000000000 + sid,
                     "manifest-list": path, "summary": {"operation": "append"}, "schema-id": 0}
             if parent is not None:
@@ -209,7 +255,7 @@ class Table:
         fields = [{"id": cid, "name": name, "required": required, "type": kind}
                   for cid, name, kind, required in self.columns]
         metadata = {
-            "format-version": 2, "table-uuid": "6c5cbd5c-3f9f-5b8c-9a53-5f6d5f1f0a11", "location": self.name,
+            "format-version": 2, "table-uuid": "6c5cbd5c-3f9f-5b8c-9a53-5f6d5f1f0a11", "location": self.location,
             "last-sequence-number": seq, "last-updated-ms": 1700000000000 + len(listed), "last-column-id": 2,
             "schemas": [{"type": "struct", "schema-id": 0, "fields": fields}], "current-schema-id": 0,
             "partition-specs": [{"spec-id": 0, "fields": []}], "default-spec-id": 0, "last-partition-id": 999,
@@ -219,23 +265,35 @@ class Table:
             metadata["current-snapshot-id"] = listed[-1]["snapshot-id"]
             metadata["snapshots"] = listed
         text = json.dumps(metadata, separators=(",", ":"))
-        self.write("%s/metadata/v%d.metadata.json" % (self.name, number), text.encode())
+        self.write("metadata/v%d.metadata.json" % number, text.encode())
 
 
 COLUMNS = [(1, "id", "long", True), (2, "name", "string", False)]
 
 
-def plain(root, name):
-    """One snapshot, one manifest, one data file: (2, NULL) and (1, 'x')."""
-    table = Table(root, name, COLUMNS)
+def empty(root, name, location=None):
+    """No snapshot."""
+    Table(root, name, COLUMNS, location).version(1, [], 0)
+
+
+def plain(root, name, location=None, entry_by=None, row_by=None):
+    """One snapshot, one manifest, one data file: (2, NULL) and (1, 'x').
+
+    A function may change the entry of the manifest before that is written, and another the row of the list."""
+    table = Table(root, name, COLUMNS, location)
     file = table.data_file("a.avro", [(2, None), (1, "x")])
-    row = table.manifest("m1.avro", [table.entry(1, file)], 1, 1)
+    entry = table.entry(1, file)
+    if entry_by:
+        entry_by(entry)
+    row = table.manifest("m1.avro", [entry], 1, 1)
+    if row_by:
+        row_by(row)
     table.version(1, [(1, None, 1, [row])], 1)
 
 
-def mixed(root, name):
+def mixed(root, name, location=None):
     """Two snapshots and three manifests, with files of other columns, and a file that was deleted."""
-    table = Table(root, name, COLUMNS)
+    table = Table(root, name, COLUMNS, location)
     quoted = table.data_file("quoted.avro", [(3, 'a "b", c'), (4, "two\nlines"), (5, "\\N")], block=2)
     gone = table.data_file("gone.avro", [(6, "gone")])
     # Found by ids: the columns in another order, an int for the long, null second, and a column that no schema has.

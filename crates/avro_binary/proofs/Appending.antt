@@ -13,5 +13,6 @@ groups_step zero n some le = absurd (omega arith)
 groups_step (suc more) n some le = let e : suc more - 1 ≡ more = omega arith in groups_suc more n le ∙ ap (λ (m : ℕ). (n % 128 + 128) ∷ groups_up_to m (n / 128)) (sym e)
 
 -- what is written after what was written first
-pub written_after : {A : Type 0} (before first more now mid all : List A) → mid ≡ before ++ first → now ≡ mid ++ more → all ≡ first ++ more → now ≡ before ++ all
+pub written_after : {A : Type 0} (before first more now mid all : List A) → mid ≡ before ++ first → now ≡ mid ++ more
+    → all ≡ first ++ more → now ≡ before ++ all
 written_after {A = A} before first more now mid all e f g = f ∙ ap (λ (t : List A). t ++ more) e ∙ append_assoc before first more ∙ ap (λ (t : List A). before ++ t) (sym g)

@@ -2,12 +2,13 @@
 use Rattle.std.proofs.Common.{◌≡◌, ◌⊎◌, ℕ, zero, suc, ◌<◌, ◌≤◌, Bool, true, false, cond, eqb, List, [], ◌∷◌, ◌++◌, length, Ok, Err, refl, sym, ap, subst, ◌∙◌, inl, inr, arith}
 use Rattle.std.proofs.lemmas.Bool.{cases_lt}
 use Rattle.std.proofs.lemmas.List.{length-append, nil_from_length}
+use Rattle.plain_types.specs.Steps.{◌>>=◌}
 use Rattle.avro_binary.specs.declared.fault.FaultKind.TheVariants.{Branch}
 use Rattle.avro_binary.specs.declared.fault.Spot.{Spot}
 use Rattle.avro_binary.specs.declared.datum.Datum.{Datum}
 use Rattle.avro_binary.specs.declared.datum.Datum.TheVariants as datum
 use Rattle.avro_binary.specs.declared.datum.MapPair.{MapPair}
-use Rattle.avro_binary.specs.Answer.{Answer, ◌>>=◌, ended, spot}
+use Rattle.avro_binary.specs.Answer.{Part, ended, spot}
 use Rattle.avro_binary.specs.Number.{count_at, counted_at, groups_at}
 use Rattle.avro_binary.specs.Shape.{Shape, null_shape, boolean_shape, int_shape, long_shape, bytes_shape, text_shape, record_shape, enum_shape, array_shape, map_shape, union_shape, fixed_shape, Shapes, no_shapes, more_shapes, shape_count}
 use Rattle.avro_binary.specs.Reading.{under, boolean_at, items_at, blocks_at, pair_at, datum_at, fields_at, branch_at}
@@ -18,29 +19,40 @@ use Rattle.avro_binary.proofs.PartLaws.{int_law, long_law, index_law, front_law,
 
 -- ---- items
 
-items_back : {A : Type 0} (reads : List ℕ → A → List ℕ → Type 0) (count : ℕ) (bytes : List ℕ) (ys : List A) (rest : List ℕ) → ReadsItems reads (suc count) bytes ys rest → Then (reads bytes) (λ x after. As (λ xs. x ∷ xs) (ReadsItems reads count after)) ys rest
+items_back : {A : Type 0} (reads : List ℕ → A → List ℕ → Type 0) (count : ℕ) (bytes : List ℕ) (ys : List A) (rest : List ℕ)
+    → ReadsItems reads (suc count) bytes ys rest → Then (reads bytes)
+    (λ x after. As (λ xs. x ∷ xs) (ReadsItems reads count after)) ys rest
 items_back reads count bytes [] rest h = let e : 0 ≡ suc count = h.0 in absurd (omega arith)
 items_back reads count bytes (y ∷ ys) rest h = let e : suc (length ys) ≡ suc count = h.0 in (y, h.1.0, h.1.1, (ys, (omega arith, h.1.2), refl))
 
-items_to : {A : Type 0} (reads : List ℕ → A → List ℕ → Type 0) (count : ℕ) (bytes : List ℕ) (ys : List A) (rest : List ℕ) → Then (reads bytes) (λ x after. As (λ xs. x ∷ xs) (ReadsItems reads count after)) ys rest → ReadsItems reads (suc count) bytes ys rest
+items_to : {A : Type 0} (reads : List ℕ → A → List ℕ → Type 0) (count : ℕ) (bytes : List ℕ) (ys : List A) (rest : List ℕ)
+    → Then (reads bytes) (λ x after. As (λ xs. x ∷ xs) (ReadsItems reads count after)) ys rest
+    → ReadsItems reads (suc count) bytes ys rest
 items_to {A = A} reads count bytes ys rest (x, after, r, (xs, (len, each), e)) = subst (λ (zs : List A). ReadsItems reads (suc count) bytes zs rest) (sym e) (ap suc len, (after, r, each))
 
-fails_items_to : {A : Type 0} (reads : List ℕ → A → List ℕ → Type 0) (fails : List ℕ → Spot → Type 0) (count : ℕ) (bytes : List ℕ) (f : Spot) → FailsThen (fails bytes) (reads bytes) (λ x after. FailsItems reads fails count after) f → FailsItems reads fails (suc count) bytes f
+fails_items_to : {A : Type 0} (reads : List ℕ → A → List ℕ → Type 0) (fails : List ℕ → Spot → Type 0) (count : ℕ) (bytes : List ℕ)
+    (f : Spot) → FailsThen (fails bytes) (reads bytes) (λ x after. FailsItems reads fails count after) f
+    → FailsItems reads fails (suc count) bytes f
 fails_items_to reads fails count bytes f (inl h) = ([], omega arith, h)
 fails_items_to reads fails count bytes f (inr (x, after, r, (xs, lt, h))) = (x ∷ xs, omega arith, (after, r, h))
 
-fails_items_back : {A : Type 0} (reads : List ℕ → A → List ℕ → Type 0) (fails : List ℕ → Spot → Type 0) (count : ℕ) (bytes : List ℕ) (f : Spot) → FailsItems reads fails (suc count) bytes f → FailsThen (fails bytes) (reads bytes) (λ x after. FailsItems reads fails count after) f
+fails_items_back : {A : Type 0} (reads : List ℕ → A → List ℕ → Type 0) (fails : List ℕ → Spot → Type 0) (count : ℕ)
+    (bytes : List ℕ) (f : Spot) → FailsItems reads fails (suc count) bytes f
+    → FailsThen (fails bytes) (reads bytes) (λ x after. FailsItems reads fails count after) f
 fails_items_back reads fails count bytes f ([], lt, h) = inl h
 fails_items_back reads fails count bytes f (x ∷ xs, lt, (after, r, h)) = inr (x, after, r, (xs, omega arith, h))
 
-no_items_only : {A : Type 0} (reads : List ℕ → A → List ℕ → Type 0) (bytes : List ℕ) (ys : List A) (rest : List ℕ) → ReadsItems reads 0 bytes ys rest → (ys ≡ []) × (bytes ≡ rest)
+no_items_only : {A : Type 0} (reads : List ℕ → A → List ℕ → Type 0) (bytes : List ℕ) (ys : List A) (rest : List ℕ)
+    → ReadsItems reads 0 bytes ys rest → (ys ≡ []) × (bytes ≡ rest)
 no_items_only reads bytes [] rest h = (refl, h.1)
 no_items_only reads bytes (y ∷ ys) rest h = let e : suc (length ys) ≡ 0 = h.0 in absurd (omega arith)
 
-no_items_to : {A : Type 0} (reads : List ℕ → A → List ℕ → Type 0) (bytes : List ℕ) (ys : List A) (rest : List ℕ) → (ys ≡ []) × (bytes ≡ rest) → ReadsItems reads 0 bytes ys rest
+no_items_to : {A : Type 0} (reads : List ℕ → A → List ℕ → Type 0) (bytes : List ℕ) (ys : List A) (rest : List ℕ) → (ys ≡ [])
+    × (bytes ≡ rest) → ReadsItems reads 0 bytes ys rest
 no_items_to {A = A} reads bytes ys rest h = subst (λ (zs : List A). ReadsItems reads 0 bytes zs rest) (sym h.0) (refl, h.1)
 
-pub items_law : {A : Type 0} (reads : List ℕ → A → List ℕ → Type 0) (fails : List ℕ → Spot → Type 0) (reader : List ℕ → Answer A) → ((bytes : List ℕ) → Law bytes (reads bytes) (fails bytes) (reader bytes))
+pub items_law : {A : Type 0} (reads : List ℕ → A → List ℕ → Type 0) (fails : List ℕ → Spot → Type 0) (reader : List ℕ → Part A)
+    → ((bytes : List ℕ) → Law bytes (reads bytes) (fails bytes) (reader bytes))
     → (count : ℕ) (bytes : List ℕ) → Law bytes (ReadsItems reads count bytes) (FailsItems reads fails count bytes) (items_at reader count bytes)
 unfolding items_at
 items_law reads fails reader law zero bytes = law_as (ReadsItems reads 0 bytes) (FailsItems reads fails 0 bytes) (law_ok [] bytes) (λ ys rest h. no_items_to reads bytes ys rest h) (λ ys rest h. no_items_only reads bytes ys rest h) (λ f h. absurd h) (λ f h. absurd (let lt : length h.0 < 0 = h.1 in omega arith))
@@ -75,27 +87,31 @@ Counted reads count bytes ys rest = ((count ≡ 0) × (ys ≡ []) × (bytes ≡ 
 abbrev FailsCounting : {A : Type 0} → (List ℕ → A → List ℕ → Type 0) → (List ℕ → Spot → Type 0) → ℕ → List ℕ → Spot → Type 0
 FailsCounting reads fails count bytes f = (0 < count) × FailsThen (FailsItems reads fails count bytes) (ReadsItems reads count bytes) (λ xs after. FailsAll reads fails after) f
 
-blocks_to : {A : Type 0} (reads : List ℕ → A → List ℕ → Type 0) (bytes : List ℕ) (ys : List A) (rest : List ℕ) → Then (ReadsCount bytes) (Counted reads) ys rest → ReadsAll reads bytes ys rest
+blocks_to : {A : Type 0} (reads : List ℕ → A → List ℕ → Type 0) (bytes : List ℕ) (ys : List A) (rest : List ℕ)
+    → Then (ReadsCount bytes) (Counted reads) ys rest → ReadsAll reads bytes ys rest
 blocks_to reads bytes ys rest (count, mid, r, inl (z, none, same)) = ([], subst (λ (t : List ℕ). ReadsCount bytes 0 t) same (subst (λ (n : ℕ). ReadsCount bytes n mid) z r), none)
 blocks_to {A = A} reads bytes ys rest (count, mid, r, inr (some, (xs, after, (len, each), (zs, (blocks, more, es), e)))) =
     (xs ∷ blocks, (after, (mid, subst (λ (n : ℕ). 0 < n) (sym len) some, subst (λ (n : ℕ). ReadsCount bytes n mid) (sym len) r, each), more), e ∙ ap (λ (t : List A). xs ++ t) es)
 
-blocks_back : {A : Type 0} (reads : List ℕ → A → List ℕ → Type 0) (bytes : List ℕ) (ys : List A) (rest : List ℕ) → ReadsAll reads bytes ys rest → Then (ReadsCount bytes) (Counted reads) ys rest
+blocks_back : {A : Type 0} (reads : List ℕ → A → List ℕ → Type 0) (bytes : List ℕ) (ys : List A) (rest : List ℕ)
+    → ReadsAll reads bytes ys rest → Then (ReadsCount bytes) (Counted reads) ys rest
 blocks_back reads bytes ys rest ([], r, e) = (0, rest, r, inl (refl, e, refl))
 blocks_back reads bytes ys rest (xs ∷ blocks, (after, (mid, some, r, each), more), e) = (length xs, mid, r, inr (some, (xs, after, (refl, each), (joined blocks, (blocks, more, refl), e))))
 
-fails_blocks_to : {A : Type 0} (reads : List ℕ → A → List ℕ → Type 0) (fails : List ℕ → Spot → Type 0) (bytes : List ℕ) (f : Spot) → FailsThen (FailsCount bytes) (ReadsCount bytes) (FailsCounting reads fails) f → FailsAll reads fails bytes f
+fails_blocks_to : {A : Type 0} (reads : List ℕ → A → List ℕ → Type 0) (fails : List ℕ → Spot → Type 0) (bytes : List ℕ) (f : Spot)
+    → FailsThen (FailsCount bytes) (ReadsCount bytes) (FailsCounting reads fails) f → FailsAll reads fails bytes f
 fails_blocks_to reads fails bytes f (inl h) = ([], inl h)
 fails_blocks_to reads fails bytes f (inr (count, mid, r, (some, inl h))) = ([], inr (count, mid, some, r, h))
 fails_blocks_to reads fails bytes f (inr (count, mid, r, (some, inr (xs, after, (len, each), (blocks, h))))) =
     (xs ∷ blocks, (after, (mid, subst (λ (n : ℕ). 0 < n) (sym len) some, subst (λ (n : ℕ). ReadsCount bytes n mid) (sym len) r, each), h))
 
-fails_blocks_back : {A : Type 0} (reads : List ℕ → A → List ℕ → Type 0) (fails : List ℕ → Spot → Type 0) (bytes : List ℕ) (f : Spot) → FailsAll reads fails bytes f → FailsThen (FailsCount bytes) (ReadsCount bytes) (FailsCounting reads fails) f
+fails_blocks_back : {A : Type 0} (reads : List ℕ → A → List ℕ → Type 0) (fails : List ℕ → Spot → Type 0) (bytes : List ℕ)
+    (f : Spot) → FailsAll reads fails bytes f → FailsThen (FailsCount bytes) (ReadsCount bytes) (FailsCounting reads fails) f
 fails_blocks_back reads fails bytes f ([], inl h) = inl h
 fails_blocks_back reads fails bytes f ([], inr (count, mid, some, r, h)) = inr (count, mid, r, (some, inl h))
 fails_blocks_back reads fails bytes f (xs ∷ blocks, (after, (mid, some, r, each), h)) = inr (length xs, mid, r, (some, inr (xs, after, (refl, each), (blocks, h))))
 
-after_count : {A : Type 0} → (List ℕ → Answer A) → ℕ → ℕ × List ℕ → Answer (List A)
+after_count : {A : Type 0} → (List ℕ → Part A) → ℕ → ℕ × List ℕ → Part (List A)
 after_count reader more count = cond (eqb count.0 0) (Ok ([], count.1)) (items_at reader count.0 count.1 >>= λ block. under (λ others. block.0 ++ others) (blocks_at reader more block.1))
 
 zero_or_more : (n : ℕ) → (n ≡ 0) ⊎ (0 < n)
@@ -104,18 +120,21 @@ zero_or_more n = elim (cases_lt 0 n) [ inl lt ↦ inr lt | inr le ↦ inl (omega
 not_both : {P : Type 0} (n : ℕ) → n ≡ 0 → 0 < n → P
 not_both n e lt = absurd (omega arith)
 
-counted_zero : {A : Type 0} (reads : List ℕ → A → List ℕ → Type 0) (fails : List ℕ → Spot → Type 0) (reader : List ℕ → Answer A) (more count : ℕ) (bytes : List ℕ) → count ≡ 0 → Law bytes (Counted reads count bytes) (FailsCounting reads fails count bytes) (after_count reader more (count, bytes))
+counted_zero : {A : Type 0} (reads : List ℕ → A → List ℕ → Type 0) (fails : List ℕ → Spot → Type 0) (reader : List ℕ → Part A)
+    (more count : ℕ) (bytes : List ℕ) → count ≡ 0 → Law bytes (Counted reads count bytes) (FailsCounting reads fails count bytes)
+    (after_count reader more (count, bytes))
 unfolding after_count
 counted_zero {A = A} reads fails reader more count bytes z =
     let is : after_count reader more (count, bytes) ≡ done {A = List A} [] bytes = ap (λ (b : Bool). cond b (Ok ([], bytes)) (items_at reader count bytes >>= λ block. under (λ others. block.0 ++ others) (blocks_at reader more block.1))) (ap (λ n. eqb n 0) z) in
     law_along (Ok ([], bytes)) (after_count reader more (count, bytes)) is
     (law_as (Counted reads count bytes) (FailsCounting reads fails count bytes) (law_ok {A = List A} [] bytes) (λ ys rest h. inl (z, h.0, h.1)) (λ ys rest h. elim h [ inl l ↦ (l.1, l.2) | inr r ↦ not_both count z r.0 ]) (λ f h. absurd h) (λ f h. not_both count z h.0))
 
-counted_some : {A : Type 0} (reads : List ℕ → A → List ℕ → Type 0) (fails : List ℕ → Spot → Type 0) (reader : List ℕ → Answer A) → ((bytes : List ℕ) → Law bytes (reads bytes) (fails bytes) (reader bytes)) → (more count : ℕ) (bytes : List ℕ)
+counted_some : {A : Type 0} (reads : List ℕ → A → List ℕ → Type 0) (fails : List ℕ → Spot → Type 0) (reader : List ℕ → Part A)
+    → ((bytes : List ℕ) → Law bytes (reads bytes) (fails bytes) (reader bytes)) → (more count : ℕ) (bytes : List ℕ)
     → ((after : List ℕ) → length after ≤ length bytes → Law after (ReadsAll reads after) (FailsAll reads fails after) (blocks_at reader more after)) → 0 < count → Law bytes (Counted reads count bytes) (FailsCounting reads fails count bytes) (after_count reader more (count, bytes))
 unfolding after_count
 counted_some {A = A} reads fails reader law more count bytes others some =
-    let whole : Answer (List A) = items_at reader count bytes >>= λ block. under (λ zs. block.0 ++ zs) (blocks_at reader more block.1) in
+    let whole : Part (List A) = items_at reader count bytes >>= λ block. under (λ zs. block.0 ++ zs) (blocks_at reader more block.1) in
     let items = items_law reads fails reader law count bytes in
     let is : after_count reader more (count, bytes) ≡ whole = ap (λ (b : Bool). cond b (Ok ([], bytes)) whole) (ne-eqb count 0 (λ z. not_both count z some)) in
     law_along whole (after_count reader more (count, bytes)) is
@@ -124,7 +143,9 @@ counted_some {A = A} reads fails reader law more count bytes others some =
     (λ xs after e. law_under (λ zs. xs ++ zs) (others after (not_longer bytes after (items.parts xs after e)))))
     (λ ys rest h. inr (some, h)) (λ ys rest h. elim h [ inl l ↦ not_both count l.0 some | inr r ↦ r.1 ]) (λ f h. (some, h)) (λ f h. h.1))
 
-blocks_step_law : {A : Type 0} (reads : List ℕ → A → List ℕ → Type 0) (fails : List ℕ → Spot → Type 0) (reader : List ℕ → Answer A) → ((bytes : List ℕ) → Law bytes (reads bytes) (fails bytes) (reader bytes)) → (more : ℕ) (bytes : List ℕ)
+blocks_step_law : {A : Type 0} (reads : List ℕ → A → List ℕ → Type 0) (fails : List ℕ → Spot → Type 0)
+    (reader : List ℕ → Part A) → ((bytes : List ℕ) → Law bytes (reads bytes) (fails bytes) (reader bytes))
+    → (more : ℕ) (bytes : List ℕ)
     → ((after : List ℕ) → length after < length bytes → Law after (ReadsAll reads after) (FailsAll reads fails after) (blocks_at reader more after)) → Law bytes (ReadsAll reads bytes) (FailsAll reads fails bytes) (blocks_at reader (suc more) bytes)
 unfolding blocks_at after_count
 blocks_step_law reads fails reader law more bytes others =
@@ -137,11 +158,12 @@ blocks_step_law reads fails reader law more bytes others =
     ]))
     (λ ys rest h. blocks_to reads bytes ys rest h) (λ ys rest h. blocks_back reads bytes ys rest h) (λ f h. fails_blocks_to reads fails bytes f h) (λ f h. fails_blocks_back reads fails bytes f h)
 
-no_blocks : {A : Type 0} (reader : List ℕ → Answer A) (bytes : List ℕ) → bytes ≡ [] → blocks_at reader 0 bytes ≡ blocks_at reader (suc 0) bytes
+no_blocks : {A : Type 0} (reader : List ℕ → Part A) (bytes : List ℕ) → bytes ≡ [] → blocks_at reader 0 bytes ≡ blocks_at reader (suc 0) bytes
 unfolding blocks_at count_at counted_at groups_at
 no_blocks reader bytes e = sym (ap (λ (t : List ℕ). blocks_at reader (suc 0) t) e)
 
-pub blocks_law : {A : Type 0} (reads : List ℕ → A → List ℕ → Type 0) (fails : List ℕ → Spot → Type 0) (reader : List ℕ → Answer A) → ((bytes : List ℕ) → Law bytes (reads bytes) (fails bytes) (reader bytes))
+pub blocks_law : {A : Type 0} (reads : List ℕ → A → List ℕ → Type 0) (fails : List ℕ → Spot → Type 0) (reader : List ℕ → Part A)
+    → ((bytes : List ℕ) → Law bytes (reads bytes) (fails bytes) (reader bytes))
     → (more : ℕ) (bytes : List ℕ) → length bytes ≤ more → Law bytes (ReadsAll reads bytes) (FailsAll reads fails bytes) (blocks_at reader more bytes)
 blocks_law reads fails reader law zero bytes le =
     law_along (blocks_at reader (suc 0) bytes) (blocks_at reader 0 bytes) (no_blocks reader bytes (nil_from_length bytes (omega arith)))
@@ -196,7 +218,8 @@ boolean_law bytes = record {
       ]);
 }
 
-pair_law : (reads : List ℕ → Datum → List ℕ → Type 0) (fails : List ℕ → Spot → Type 0) (reader : List ℕ → Answer Datum) → ((bytes : List ℕ) → Law bytes (reads bytes) (fails bytes) (reader bytes))
+pair_law : (reads : List ℕ → Datum → List ℕ → Type 0) (fails : List ℕ → Spot → Type 0) (reader : List ℕ → Part Datum)
+    → ((bytes : List ℕ) → Law bytes (reads bytes) (fails bytes) (reader bytes))
     → (bytes : List ℕ) → Law bytes (ReadsPair reads bytes) (FailsPair fails bytes) (pair_at reader bytes)
 unfolding pair_at
 pair_law reads fails reader law bytes =
@@ -231,7 +254,8 @@ mutual
   fields_law (more_shapes s ss) bytes =
       law_then (λ d after. As (λ others. d ∷ others) (ReadsFields ss after)) (λ d after. FailsFields ss after) (λ first. under (λ others. first.0 ∷ others) (fields_at ss first.1)) (datum_law s bytes) (λ d after e. law_under (λ others. d ∷ others) (fields_law ss after))
 
-  pub branch_law : (ss : Shapes) (index : ℕ) (bytes : List ℕ) → index < shape_count ss → Law bytes (ReadsBranch ss index bytes) (FailsBranch ss index bytes) (branch_at ss index bytes)
+  pub branch_law : (ss : Shapes) (index : ℕ) (bytes : List ℕ) → index < shape_count ss
+      → Law bytes (ReadsBranch ss index bytes) (FailsBranch ss index bytes) (branch_at ss index bytes)
   branch_law no_shapes index bytes lt = absurd (omega arith)
   branch_law (more_shapes s ss) zero bytes lt = datum_law s bytes
   branch_law (more_shapes s ss) (suc index) bytes lt = branch_law ss index bytes (omega arith)

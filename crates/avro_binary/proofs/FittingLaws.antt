@@ -30,15 +30,18 @@ all_append P (x ∷ xs) ys p q = (p.0, all_append P xs ys p.1 q)
 abbrev Fitting : {A : Type 0} → (A → Type 0) → (List ℕ → A → List ℕ → Type 0) → Type 0
 Fitting {A = A} fits reads = (bytes : List ℕ) (x : A) (rest : List ℕ) → reads bytes x rest → fits x
 
-each_fits : {A : Type 0} (fits : A → Type 0) (reads : List ℕ → A → List ℕ → Type 0) → Fitting fits reads → (xs : List A) (bytes rest : List ℕ) → ReadsEach reads xs bytes rest → AllByRecursion fits xs
+each_fits : {A : Type 0} (fits : A → Type 0) (reads : List ℕ → A → List ℕ → Type 0) → Fitting fits reads
+    → (xs : List A) (bytes rest : List ℕ) → ReadsEach reads xs bytes rest → AllByRecursion fits xs
 each_fits fits reads law [] bytes rest h = tt
 each_fits fits reads law (x ∷ xs) bytes rest (after, r, more) = (law bytes x after r, each_fits fits reads law xs after rest more)
 
-blocks_fit : {A : Type 0} (fits : A → Type 0) (reads : List ℕ → A → List ℕ → Type 0) → Fitting fits reads → (blocks : List (List A)) (bytes rest : List ℕ) → ReadsBlocks reads blocks bytes rest → AllByRecursion fits (joined blocks)
+blocks_fit : {A : Type 0} (fits : A → Type 0) (reads : List ℕ → A → List ℕ → Type 0) → Fitting fits reads
+    → (blocks : List (List A)) (bytes rest : List ℕ) → ReadsBlocks reads blocks bytes rest → AllByRecursion fits (joined blocks)
 blocks_fit fits reads law [] bytes rest h = tt
 blocks_fit fits reads law (xs ∷ blocks) bytes rest (after, (items, some, count, each), more) = all_append fits xs (joined blocks) (each_fits fits reads law xs items after each) (blocks_fit fits reads law blocks after rest more)
 
-all_fit : {A : Type 0} (fits : A → Type 0) (reads : List ℕ → A → List ℕ → Type 0) → Fitting fits reads → (bytes : List ℕ) (xs : List A) (rest : List ℕ) → ReadsAll reads bytes xs rest → AllByRecursion fits xs
+all_fit : {A : Type 0} (fits : A → Type 0) (reads : List ℕ → A → List ℕ → Type 0) → Fitting fits reads
+    → (bytes : List ℕ) (xs : List A) (rest : List ℕ) → ReadsAll reads bytes xs rest → AllByRecursion fits xs
 all_fit {A = A} fits reads law bytes xs rest (blocks, r, e) = subst (λ (ys : List A). AllByRecursion fits ys) (sym e) (blocks_fit fits reads law blocks bytes rest r)
 
 abbrev FitsPair : (Datum → Type 0) → MapPair → Type 0

@@ -1,19 +1,20 @@
 -- That a reading function and a grammar agree, and that they go on agreeing as parts are put together.
 use Rattle.std.proofs.Common.{◌≡◌, ◌⊎◌, ℕ, Bool, true, false, cond, List, [], ◌++◌, Ok, Err, refl, sym, ap, subst, ◌∙◌, append_assoc, inl, inr}
+use Rattle.plain_types.specs.Steps.{◌>>=◌}
 use Rattle.avro_binary.specs.declared.fault.Spot.{Spot}
-use Rattle.avro_binary.specs.Answer.{Answer, ◌>>=◌}
+use Rattle.avro_binary.specs.Answer.{Part}
 use Rattle.avro_binary.specs.Reading.{under}
 use Rattle.avro_binary.specs.Grammar.{Then, FailsThen, Where, FailsWhere, As}
 
 -- what is answered at these bytes is what the grammar has, and the fault is the first one
-pub record Law {A : Type 0} (bytes : List ℕ) (reads : A → List ℕ → Type 0) (fails : Spot → Type 0) (answer : Answer A) : Type 0 where
+pub record Law {A : Type 0} (bytes : List ℕ) (reads : A → List ℕ → Type 0) (fails : Spot → Type 0) (answer : Part A) : Type 0 where
   pub found : (x : A) (rest : List ℕ) → answer ≡ Ok (x, rest) → reads x rest
   pub only : (x : A) (rest : List ℕ) → reads x rest → answer ≡ Ok (x, rest)
   pub fault : (f : Spot) → answer ≡ Err f → fails f
   pub first : (f : Spot) → fails f → answer ≡ Err f
   pub parts : (x : A) (rest : List ℕ) → answer ≡ Ok (x, rest) → (front : List ℕ) × (bytes ≡ front ++ rest)
 
-abbrev pub done : {A : Type 0} → A → List ℕ → Answer A
+abbrev pub done : {A : Type 0} → A → List ℕ → Part A
 done x rest = Ok (x, rest)
 
 abbrev pair : {A : Type 0} → A → List ℕ → A × List ℕ
@@ -35,15 +36,18 @@ ok_no_err x rest f e = cc
 pub err_no_ok : {A : Type 0} (x : A) (rest : List ℕ) (f : Spot) → Err f ≡ done x rest → ⊥
 err_no_ok x rest f e = cc
 
-pub bind_ok : {A B : Type 0} (r : Answer A) (k : A × List ℕ → Answer B) (y : B) (rest : List ℕ) → (r >>= k) ≡ Ok (y, rest) → (x : A) × (after : List ℕ) × (r ≡ Ok (x, after)) × (k (x, after) ≡ Ok (y, rest))
+pub bind_ok : {A B : Type 0} (r : Part A) (k : A × List ℕ → Part B) (y : B) (rest : List ℕ) → (r >>= k) ≡ Ok (y, rest)
+    → (x : A) × (after : List ℕ) × (r ≡ Ok (x, after)) × (k (x, after) ≡ Ok (y, rest))
 bind_ok (Ok p) k y rest e = (p.0, p.1, refl, e)
 bind_ok (Err f) k y rest e = absurd cc
 
-pub bind_err : {A B : Type 0} (r : Answer A) (k : A × List ℕ → Answer B) (f : Spot) → (r >>= k) ≡ Err f → (r ≡ Err f) ⊎ ((x : A) × (after : List ℕ) × (r ≡ Ok (x, after)) × (k (x, after) ≡ Err f))
+pub bind_err : {A B : Type 0} (r : Part A) (k : A × List ℕ → Part B) (f : Spot) → (r >>= k) ≡ Err f
+    → (r ≡ Err f) ⊎ ((x : A) × (after : List ℕ) × (r ≡ Ok (x, after)) × (k (x, after) ≡ Err f))
 bind_err (Ok p) k f e = inr (p.0, p.1, refl, e)
 bind_err {A = A} (Err g) k f e = let same : g ≡ f = cc in inl (ap (λ (h : Spot). Err h) same)
 
-pub law_then : {A B : Type 0} {bytes : List ℕ} {reads : A → List ℕ → Type 0} {fails : Spot → Type 0} {answer : Answer A} (second : A → List ℕ → B → List ℕ → Type 0) (fails_second : A → List ℕ → Spot → Type 0) (k : A × List ℕ → Answer B)
+pub law_then : {A B : Type 0} {bytes : List ℕ} {reads : A → List ℕ → Type 0} {fails : Spot → Type 0} {answer : Part A}
+    (second : A → List ℕ → B → List ℕ → Type 0) (fails_second : A → List ℕ → Spot → Type 0) (k : A × List ℕ → Part B)
     → Law bytes reads fails answer → ((x : A) (after : List ℕ) → answer ≡ Ok (x, after) → Law after (second x after) (fails_second x after) (k (x, after)))
     → Law bytes (Then reads second) (FailsThen fails reads fails_second) (answer >>= k)
 law_then {bytes = bytes} {fails = fails} {answer = answer} second fails_second k a b = record {
@@ -54,7 +58,8 @@ law_then {bytes = bytes} {fails = fails} {answer = answer} second fails_second k
   parts = λ y rest e. let p = bind_ok answer k y rest e in let l = a.parts p.0 p.1 p.2 in let r = (b p.0 p.1 p.2).parts y rest p.3 in (l.0 ++ r.0, l.1 ∙ ap (λ (t : List ℕ). l.0 ++ t) r.1 ∙ sym (append_assoc l.0 r.0 rest));
 }
 
-pub law_under : {A B : Type 0} {bytes : List ℕ} {reads : A → List ℕ → Type 0} {fails : Spot → Type 0} {answer : Answer A} (value : A → B) → Law bytes reads fails answer → Law bytes (As value reads) fails (under value answer)
+pub law_under : {A B : Type 0} {bytes : List ℕ} {reads : A → List ℕ → Type 0} {fails : Spot → Type 0} {answer : Part A}
+    (value : A → B) → Law bytes reads fails answer → Law bytes (As value reads) fails (under value answer)
 law_under {A = A} {B = B} {answer = answer} value a = record {
   found = λ y rest e. let p = bind_ok answer (λ x. Ok (value x.0, x.1)) y rest e in (p.0, a.found p.0 rest (p.2 ∙ ap (λ (t : List ℕ). done p.0 t) (same_rest (value p.0) y p.1 rest p.3)), sym (same_value (value p.0) y p.1 rest p.3));
   only = λ y rest h. ap (under value) (a.only h.0 rest h.1) ∙ ap (λ (z : B). done z rest) (sym h.2);
@@ -64,7 +69,7 @@ law_under {A = A} {B = B} {answer = answer} value a = record {
 }
 
 -- a test of what was read
-abbrev pub checked : {A B : Type 0} → (A → List ℕ → Bool) → (A → B) → Spot → A × List ℕ → Answer B
+abbrev pub checked : {A B : Type 0} → (A → List ℕ → Bool) → (A → B) → Spot → A × List ℕ → Part B
 checked test value e p = cond (test p.0 p.1) (Ok (value p.0, p.1)) (Err e)
 
 -- what a test says
@@ -74,7 +79,8 @@ pub record Tells {A : Type 0} (test : A → List ℕ → Bool) (rule broken : A 
   pub fails : (x : A) (rest : List ℕ) → test x rest ≡ false → broken x rest
   pub failed : (x : A) (rest : List ℕ) → broken x rest → test x rest ≡ false
 
-pub guarded_ok : {A : Type 0} (b : Bool) (x y : A) (after rest : List ℕ) (e : Spot) → cond b (done x after) (Err e) ≡ done y rest → (b ≡ true) × (y ≡ x) × (after ≡ rest)
+pub guarded_ok : {A : Type 0} (b : Bool) (x y : A) (after rest : List ℕ) (e : Spot) → cond b (done x after) (Err e) ≡ done y rest
+    → (b ≡ true) × (y ≡ x) × (after ≡ rest)
 guarded_ok true x y after rest e h = (refl, sym (same_value x y after rest h), same_rest x y after rest h)
 guarded_ok false x y after rest e h = absurd (err_no_ok y rest e h)
 
@@ -82,7 +88,8 @@ pub guarded_err : {A : Type 0} (b : Bool) (x : A) (after : List ℕ) (e f : Spot
 guarded_err true x after e f h = absurd (ok_no_err x after f h)
 guarded_err false x after e f h = (refl, cc)
 
-pub law_where : {A B : Type 0} {bytes : List ℕ} {reads : A → List ℕ → Type 0} {fails : Spot → Type 0} {answer : Answer A} (test : A → List ℕ → Bool) (rule breaks : A → List ℕ → Type 0) (value : A → B) (e : Spot)
+pub law_where : {A B : Type 0} {bytes : List ℕ} {reads : A → List ℕ → Type 0} {fails : Spot → Type 0} {answer : Part A}
+    (test : A → List ℕ → Bool) (rule breaks : A → List ℕ → Type 0) (value : A → B) (e : Spot)
     → Tells test rule breaks → Law bytes reads fails answer → Law bytes (Where reads rule value) (FailsWhere fails reads breaks e) (answer >>= checked test value e)
 law_where {A = A} {B = B} {bytes = bytes} {reads = reads} {fails = fails} {answer = answer} test rule breaks value e tells a = record {
   found = λ y rest h. let p = bind_ok answer (checked test value e) y rest h in let g = guarded_ok (test p.0 p.1) (value p.0) y p.1 rest e p.3 in
@@ -104,7 +111,8 @@ law_ok {A = A} x bytes = record {
 }
 
 -- the same grammar in other words
-pub law_as : {A : Type 0} {bytes : List ℕ} {reads : A → List ℕ → Type 0} {fails : Spot → Type 0} {answer : Answer A} (others : A → List ℕ → Type 0) (faults : Spot → Type 0)
+pub law_as : {A : Type 0} {bytes : List ℕ} {reads : A → List ℕ → Type 0} {fails : Spot → Type 0} {answer : Part A}
+    (others : A → List ℕ → Type 0) (faults : Spot → Type 0)
     → Law bytes reads fails answer → ((x : A) (rest : List ℕ) → reads x rest → others x rest) → ((x : A) (rest : List ℕ) → others x rest → reads x rest) → ((f : Spot) → fails f → faults f) → ((f : Spot) → faults f → fails f) → Law bytes others faults answer
 law_as others faults a to back to_fault back_fault = record {
   found = λ x rest e. to x rest (a.found x rest e);
@@ -115,7 +123,8 @@ law_as others faults a to back to_fault back_fault = record {
 }
 
 -- an answer that is the same
-pub law_along : {A : Type 0} {bytes : List ℕ} {reads : A → List ℕ → Type 0} {fails : Spot → Type 0} (answer other : Answer A) → other ≡ answer → Law bytes reads fails answer → Law bytes reads fails other
+pub law_along : {A : Type 0} {bytes : List ℕ} {reads : A → List ℕ → Type 0} {fails : Spot → Type 0} (answer other : Part A)
+    → other ≡ answer → Law bytes reads fails answer → Law bytes reads fails other
 law_along answer other same a = record {
   found = λ x rest e. a.found x rest (sym same ∙ e);
   only = λ x rest h. same ∙ a.only x rest h;
@@ -124,13 +133,14 @@ law_along answer other same a = record {
   parts = λ x rest e. a.parts x rest (sym same ∙ e);
 }
 
-abbrev stopped : {A : Type 0} → Spot → Answer A
+abbrev stopped : {A : Type 0} → Spot → Part A
 stopped e = Err e
 
 same_fault : {A : Type 0} (e f : Spot) → stopped {A = A} e ≡ Err f → e ≡ f
 same_fault e f h = cc
 
-pub law_err : {A : Type 0} (e : Spot) (bytes : List ℕ) (reads : A → List ℕ → Type 0) (fails : Spot → Type 0) → ((x : A) (rest : List ℕ) → reads x rest → ⊥) → ((f : Spot) → fails f → f ≡ e) → fails e → Law bytes reads fails (Err e)
+pub law_err : {A : Type 0} (e : Spot) (bytes : List ℕ) (reads : A → List ℕ → Type 0) (fails : Spot → Type 0)
+    → ((x : A) (rest : List ℕ) → reads x rest → ⊥) → ((f : Spot) → fails f → f ≡ e) → fails e → Law bytes reads fails (Err e)
 law_err e bytes reads fails none same is = record {
   found = λ x rest h. absurd (err_no_ok x rest e h);
   only = λ x rest h. absurd (none x rest h);

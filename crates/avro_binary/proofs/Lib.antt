@@ -1,21 +1,22 @@
-pub mod Loops
-pub mod Shapes
-pub mod Laws
-pub mod NumberLaws
-pub mod PartLaws
-pub mod DatumLaws
-pub mod Answered
-pub mod Placing
-pub mod Each
-pub mod Appending
-pub mod ShortestLaws
-pub mod Spelled
-pub mod SpellingLaws
-pub mod SchemaLoops
-pub mod SchemaFloats
-pub mod SchemaLaws
-pub mod JsonTexts
-pub mod SchemaTexts
-pub mod ReadTexts
-pub mod ReadAgain
-pub mod FittingLaws
+mod Answered
+mod Appending
+pub mod CallerLemmas
+mod DatumLaws
+mod Each
+mod FittingLaws
+mod JsonTexts
+mod Laws
+mod Loops
+mod NumberLaws
+mod PartLaws
+mod Placing
+mod ReadAgain
+mod ReadTexts
+mod SchemaFloats
+mod SchemaLaws
+mod SchemaLoops
+mod SchemaTexts
+mod Shapes
+mod ShortestLaws
+mod Spelled
+mod SpellingLaws

@@ -1,9 +1,10 @@
 -- Numbers are read by their grammar.
 use Rattle.std.proofs.Common.{◌≡◌, ℕ, zero, suc, ◌+◌, ◌*◌, ◌%◌, ◌^◌, ◌<◌, ◌≤◌, Bool, true, false, cond, ltb, List, [], ◌∷◌, ◌++◌, length, Ok, Err, refl, sym, ap, ◌∙◌, inl, inr, arith}
 use Rattle.std.proofs.lemmas.Bool.{cases_lt, ltb-true, ltb-false, lt-ltb, le-ltb}
+use Rattle.plain_types.specs.Steps.{◌>>=◌}
 use Rattle.avro_binary.specs.declared.fault.FaultKind.TheVariants.{Long}
 use Rattle.avro_binary.specs.declared.fault.Spot.{Spot}
-use Rattle.avro_binary.specs.Answer.{Answer, ◌>>=◌, ended, spot}
+use Rattle.avro_binary.specs.Answer.{Part, ended, spot}
 use Rattle.avro_binary.specs.Number.{groups_at}
 use Rattle.avro_binary.specs.Grammar.{IsNumber, GoOn, ReadsGroups, FailsGroups}
 use Rattle.avro_binary.proofs.Laws.{Law, done, same_value, same_rest, ok_no_err, err_no_ok, bind_ok, bind_err, guarded_ok, guarded_err}
@@ -13,7 +14,7 @@ number_more b [] high n le e is = absurd is
 number_more b (c ∷ cs) high n le e is = (le, (high, e, is))
 
 -- what is done with the groups after a byte
-abbrev onto : ℕ → List ℕ → ℕ × List ℕ → Answer ℕ
+abbrev onto : ℕ → List ℕ → ℕ × List ℕ → Part ℕ
 onto b whole high = cond (ltb high.0 (2 ^ 57)) (Ok (b % 128 + 128 * high.0, high.1)) (Err (spot Long whole))
 
 last_group : (most b : ℕ) (whole bytes : List ℕ) → b < 128 → groups_at (suc most) whole (b ∷ bytes) ≡ Ok (b, bytes)
@@ -40,7 +41,8 @@ groups_found (suc most) whole (b ∷ bytes) n rest e = elim (cases_lt b 128) [
       record { spelling = b ∷ r.spelling; parts = ap (λ (t : List ℕ). b ∷ t) (r.parts ∙ ap (λ (t : List ℕ). r.spelling ++ t) g.2); few = omega arith; is = number_more b r.spelling p.0 n le g.1 r.is; fits = omega arith })
 ]
 
-again : (most : ℕ) (whole spelling rest : List ℕ) (n : ℕ) → length spelling ≤ most → IsNumber spelling n → n < 2 ^ 64 → groups_at most whole (spelling ++ rest) ≡ Ok (n, rest)
+again : (most : ℕ) (whole spelling rest : List ℕ) (n : ℕ) → length spelling ≤ most → IsNumber spelling n → n < 2 ^ 64
+    → groups_at most whole (spelling ++ rest) ≡ Ok (n, rest)
 again most whole [] rest n few is fits = absurd is
 again zero whole (b ∷ spelling) rest n few is fits = absurd (omega arith)
 again (suc most) whole (b ∷ []) rest n few is fits = last_group most b whole rest is.0 ∙ ap (λ (m : ℕ). done m rest) (sym is.1)
@@ -52,7 +54,8 @@ again (suc most) whole (b ∷ c ∷ bs) rest n few is fits =
     let small : ltb high (2 ^ 57) ≡ true = lt-ltb high (2 ^ 57) (omega arith) in
     more_groups most b whole ((c ∷ bs) ++ rest) is.0 ∙ ap (λ r. r >>= onto b whole) e ∙ ap (λ (t : Bool). cond t (done (b % 128 + 128 * high) rest) (Err (spot Long whole))) small ∙ ap (λ (m : ℕ). done m rest) (sym is.1.1)
 
-fails_behind : (most : ℕ) (whole : List ℕ) (b : ℕ) (bytes : List ℕ) (f : Spot) → 128 ≤ b → FailsGroups most whole bytes f → FailsGroups (suc most) whole (b ∷ bytes) f
+fails_behind : (most : ℕ) (whole : List ℕ) (b : ℕ) (bytes : List ℕ) (f : Spot) → 128 ≤ b → FailsGroups most whole bytes f
+    → FailsGroups (suc most) whole (b ∷ bytes) f
 fails_behind most whole b bytes f le (inl (e, at)) = inl (record { go_on = (le, e.go_on); few = (let few : length bytes < most = e.few in omega arith) }, at)
 fails_behind most whole b bytes f le (inr (inl p, at)) = inr (inl (record { front = b ∷ p.front; rest = p.rest; parts = ap (λ (t : List ℕ). b ∷ t) p.parts; go_on = (le, p.go_on); long = ap suc p.long }), at)
 fails_behind most whole b bytes f le (inr (inr w, at)) = inr (inr (record { spelling = b ∷ w.spelling; rest = w.rest; number = b % 128 + 128 * w.number; parts = ap (λ (t : List ℕ). b ∷ t) w.parts; few = (let few : length w.spelling ≤ most = w.few in omega arith); is = number_more b w.spelling w.number (b % 128 + 128 * w.number) le refl w.is; wide = (let wide : 2 ^ 64 ≤ w.number = w.wide in omega arith) }), at)
@@ -85,7 +88,8 @@ goes zero whole front rest go long = refl
 goes (suc most) whole [] rest go long = absurd (omega arith)
 goes (suc most) whole (b ∷ front) rest go long = let less : length front ≡ most = omega arith in more_groups most b whole (front ++ rest) go.0 ∙ ap (λ r. r >>= onto b whole) (goes most whole front rest go.1 less)
 
-wide : (most : ℕ) (whole spelling rest : List ℕ) (n : ℕ) → length spelling ≤ most → IsNumber spelling n → 2 ^ 64 ≤ n → groups_at most whole (spelling ++ rest) ≡ Err (spot Long whole)
+wide : (most : ℕ) (whole spelling rest : List ℕ) (n : ℕ) → length spelling ≤ most → IsNumber spelling n → 2 ^ 64 ≤ n
+    → groups_at most whole (spelling ++ rest) ≡ Err (spot Long whole)
 wide most whole [] rest n few is big = absurd is
 wide zero whole (b ∷ spelling) rest n few is big = absurd (omega arith)
 wide (suc most) whole (b ∷ []) rest n few is big = let lt : b < 128 = is.0 in let e : n ≡ b = is.1 in absurd (omega arith)

@@ -4,9 +4,10 @@ use Rattle.std.specs.Str.{is_utf8, IsUtf8}
 use Rattle.std.proofs.lemmas.Str.{IsUtf8-from_is_utf8, is_utf8-from_IsUtf8}
 use Rattle.std.proofs.lemmas.Bool.{cases_lt, ltb-true, ltb-false, lt-ltb, le-ltb, leb-true, leb-false, le-leb, lt-leb, eqb-true}
 use Rattle.std.proofs.lemmas.List.{take_at, drop_at, take-append-drop, length-append, length-take}
+use Rattle.plain_types.specs.Steps.{◌>>=◌}
 use Rattle.avro_binary.specs.declared.fault.FaultKind.TheVariants.{Long, Branch, Text, Size}
 use Rattle.avro_binary.specs.declared.fault.Spot.{Spot}
-use Rattle.avro_binary.specs.Answer.{Answer, ◌>>=◌, ended, spot}
+use Rattle.avro_binary.specs.Answer.{Part, ended, spot}
 use Rattle.avro_binary.specs.Number.{signed, number_at, int_at, long_at, length_at, index_at, front_at, bytes_at, text_at, count_of, counted_at, count_at}
 use Rattle.avro_binary.specs.Reading.{under}
 use Rattle.avro_binary.specs.Grammar.{ReadsNumber, FailsNumber, ReadsInt, FailsInt, ReadsLong, ReadsLength, FailsLength, IsIndex, ReadsIndex, FailsIndex, ReadsFront, FailsFront, ReadsBytes, FailsBytes, ReadsText, FailsText, ReadsCounted, FailsCounted, ReadsSize, FailsSize, ReadsCount, FailsCount}
@@ -63,7 +64,8 @@ index_test limit n h = ap (λ b. b && ltb (n / 2) (min limit (2 ^ 32))) (even_te
 index_from_test : (limit n : ℕ) → (eqb (n % 2) 0 && ltb (n / 2) (min limit (2 ^ 32))) ≡ true → IsIndex limit n
 index_from_test limit n e = let b = both_true (eqb (n % 2) 0) (ltb (n / 2) (min limit (2 ^ 32))) e in (eqb-true (n % 2) 0 b.0, ltb-true (n / 2) (min limit (2 ^ 32)) b.1)
 
-is_index : (limit : ℕ) → Tells (λ n (rest : List ℕ). eqb (n % 2) 0 && ltb (n / 2) (min limit (2 ^ 32))) (λ n rest. IsIndex limit n) (λ n rest. ¬ (IsIndex limit n))
+is_index : (limit : ℕ) → Tells (λ n (rest : List ℕ). eqb (n % 2) 0 && ltb (n / 2) (min limit (2 ^ 32)))
+    (λ n rest. IsIndex limit n) (λ n rest. ¬ (IsIndex limit n))
 is_index limit = record {
   keeps = λ n rest e. index_from_test limit n e;
   kept = λ n rest h. index_test limit n h;
@@ -107,7 +109,8 @@ index_law limit bytes = law_where (λ n rest. eqb (n % 2) 0 && ltb (n / 2) (min 
 
 -- ---- bytes and texts
 
-fronted_ok : (b : Bool) (n : ℕ) (bytes text rest : List ℕ) → cond b (Err ended) (done (take n bytes) (drop n bytes)) ≡ done text rest → (b ≡ false) × (take n bytes ≡ text) × (drop n bytes ≡ rest)
+fronted_ok : (b : Bool) (n : ℕ) (bytes text rest : List ℕ) → cond b (Err ended)
+    (done (take n bytes) (drop n bytes)) ≡ done text rest → (b ≡ false) × (take n bytes ≡ text) × (drop n bytes ≡ rest)
 fronted_ok true n bytes text rest e = absurd (err_no_ok text rest ended e)
 fronted_ok false n bytes text rest e = (refl, same_value (take n bytes) text (drop n bytes) rest e, same_rest (take n bytes) text (drop n bytes) rest e)
 
@@ -152,7 +155,7 @@ counted_law : (bytes : List ℕ) → Law bytes (ReadsCounted bytes) (FailsCounte
 unfolding counted_at
 counted_law bytes = law_where (λ n rest. leb (count_of n) (length rest)) (λ n rest. count_of n ≤ length rest) (λ n rest. length rest < count_of n) (λ n. n) (spot Size bytes) is_counted (number_law bytes)
 
-size_of_count : ℕ × List ℕ → Answer ℕ
+size_of_count : ℕ × List ℕ → Part ℕ
 size_of_count n = cond (eqb (n.0 % 2) 0) (Ok (n.0 / 2, n.1)) (length_at n.1 >>= λ size. Ok (n.0 / 2 + 1, size.1))
 
 abbrev zero_is_one : Type 0

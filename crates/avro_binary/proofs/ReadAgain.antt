@@ -14,6 +14,7 @@ use Rattle.serde_json.specs.Data.{Num, unsigned, negative, float, Data, null, bo
 use Rattle.serde_json.specs.Read.{max_depth}
 use Rattle.serde_json.specs.Find.{get_member, get, as_array, as_str, as_number, as_u64, as_i64}
 use Rattle.serde_json.specs.View.{items_of}
+use Rattle.plain_types.specs.Steps.{◌>>=◌}
 use Rattle.avro_binary.specs.declared.schema_fault.SchemaFault.{SchemaFault}
 use Rattle.avro_binary.specs.declared.schema_fault.SchemaFault.TheVariants.{Json, Shape, Depth, TypeName}
 use Rattle.avro_binary.specs.declared.names.Names.{Names}
@@ -29,7 +30,7 @@ use Rattle.avro_binary.specs.declared.word.Word.TheVariants as word
 use Rattle.avro_binary.specs.Word.{word_of}
 use Rattle.avro_binary.specs.Naming.{dot_from, last_dot, space_of, full_name, find, has_begun}
 use Rattle.avro_binary.specs.Placed.{Placing, place_each, placed, placed_field}
-use Rattle.avro_binary.specs.SchemaText.{◌>>=◌, needed, node, text_at, number_at, narrow, id_at, decimal, logical_named, logical_by, logical_of, is_map, type_name, defined_name, used, begin, finish, Nodes, each, symbol, field, record_node, enum_node, fixed_node, array_node, map_node, union_node, if_placed, referred, name_node, typed, single, schema_at, start, schema_of, json_of, schema_in, schema_from}
+use Rattle.avro_binary.specs.SchemaText.{needed, node, text_at, number_at, narrow, id_at, decimal, logical_named, logical_by, logical_of, is_map, type_name, defined_name, used, begin, finish, Nodes, each, symbol, field, record_node, enum_node, fixed_node, array_node, map_node, union_node, if_placed, referred, name_node, typed, single, schema_at, start, schema_of, json_of, schema_in, schema_from}
 use Rattle.avro_binary.specs.SchemaData.{Writing, name_data, primitive, write_each, named, record_written, enum_written, fixed_written, written, written_field, data_of, schema_text}
 use Rattle.avro_binary.specs.SchemaOnce.{is_logical, is_id}
 use Rattle.avro_binary.proofs.JsonTexts.{Good, GoodItems, is_text, read_text, ascii_before}
@@ -47,17 +48,21 @@ no_ok : {A P : Type 0} (f : SchemaFault) (y : A) → (let r : Result A SchemaFau
 no_ok f y e = absurd cc
 
 -- what holds of each answer of the rest holds of the whole
-bind_then : {A B : Type 0} (P : B → Type 0) (r : Result A SchemaFault) (k : A → Result B SchemaFault) → ((x : A) → r ≡ Ok x → (y : B) → k x ≡ Ok y → P y) → (y : B) → (r >>= k) ≡ Ok y → P y
+bind_then : {A B : Type 0} (P : B → Type 0) (r : Result A SchemaFault) (k : A → Result B SchemaFault)
+    → ((x : A) → r ≡ Ok x → (y : B) → k x ≡ Ok y → P y) → (y : B) → (r >>= k) ≡ Ok y → P y
 bind_then P (Ok x) k h y e = h x refl y e
 bind_then P (Err f) k h y e = no_ok f y e
 
-needed_then : {A B : Type 0} (P : B → Type 0) (o : Option A) (k : A → Result B SchemaFault) → ((x : A) → o ≡ Some x → (y : B) → k x ≡ Ok y → P y) → (y : B) → (needed o >>= k) ≡ Ok y → P y
+needed_then : {A B : Type 0} (P : B → Type 0) (o : Option A) (k : A → Result B SchemaFault)
+    → ((x : A) → o ≡ Some x → (y : B) → k x ≡ Ok y → P y) → (y : B) → (needed o >>= k) ≡ Ok y → P y
 needed_then P (Some x) k h y e = h x refl y e
 needed_then P None k h y e = no_ok Shape y e
 
 -- ---- what the keys of a text say
 
-member_step : (o : Ordering) (k : List ℕ) (e : Data) (ms : Members) (x : Data) → Texts e → MembersTexts ms → ((y : Data) → get_member k ms ≡ Some y → Texts y) → match_ordering o (get_member k ms) (Some e) (get_member k ms) ≡ Some x → Texts x
+member_step : (o : Ordering) (k : List ℕ) (e : Data) (ms : Members) (x : Data) → Texts e → MembersTexts ms
+    → ((y : Data) → get_member k ms ≡ Some y → Texts y) → match_ordering o (get_member k ms) (Some e) (get_member k ms) ≡ Some x
+    → Texts x
 member_step ordering.Less k e ms x he h more is = more x is
 member_step ordering.Equal k e ms x he h more is = subst Texts (same_some e x is) he
 member_step ordering.Greater k e ms x he h more is = more x is
@@ -134,7 +139,8 @@ id_here k d = id_of (option_and_then as_i64 (option_and_then as_number (get k d)
 other_decimal : is_logical (Other (codes "decimal")) ≡ true
 other_decimal = ap (λ (b : Bool). b && (not (bytes_eq (codes "decimal") (codes "date")) && not (bytes_eq (codes "decimal") (codes "timestamp-micros")))) (is_utf8-from_IsUtf8 (codes "decimal") (is_text (codes "decimal") refl))
 
-decimal_by : (c : Bool) (precision scale : ℕ) → (nat_le 1 precision && (nat_le precision 38 && nat_le scale precision)) ≡ c → is_logical (if c then Decimal precision scale else Other (codes "decimal")) ≡ true
+decimal_by : (c : Bool) (precision scale : ℕ) → (nat_le 1 precision && (nat_le precision 38 && nat_le scale precision)) ≡ c
+    → is_logical (if c then Decimal precision scale else Other (codes "decimal")) ≡ true
 decimal_by true precision scale e = e
 decimal_by false precision scale e = other_decimal
 
@@ -144,7 +150,8 @@ decimal_ok (Some precision) (Some scale) = decimal_by (nat_le 1 precision && (na
 decimal_ok (Some precision) None = other_decimal
 decimal_ok None scale = other_decimal
 
-logical_case : (a b c : Bool) (name : List ℕ) (utc : Bool) (digits : Logical) → bytes_eq name (codes "date") ≡ a → bytes_eq name (codes "timestamp-micros") ≡ b → is_utf8 name ≡ true → is_logical digits ≡ true
+logical_case : (a b c : Bool) (name : List ℕ) (utc : Bool) (digits : Logical) → bytes_eq name (codes "date") ≡ a
+    → bytes_eq name (codes "timestamp-micros") ≡ b → is_utf8 name ≡ true → is_logical digits ≡ true
     → is_logical (if a then Date else (if b then TimestampMicros utc else (if c then digits else Other name))) ≡ true
 logical_case true b c name utc digits date micros text h = refl
 logical_case false true c name utc digits date micros text h = refl
@@ -227,7 +234,8 @@ record IsResolved (space name full : List ℕ) : Type 0 where
   again : full_name space full ≡ full
   reference : word_of name ≡ word.Name → word_of full ≡ word.Name
 
-resolved_by : (c : Bool) (space name : List ℕ) → (is_some (last_dot name) || eqb (length space) 0) ≡ c → IsResolved space name (if c then name else space ++ 46 ∷ name)
+resolved_by : (c : Bool) (space name : List ℕ) → (is_some (last_dot name) || eqb (length space) 0) ≡ c
+    → IsResolved space name (if c then name else space ++ 46 ∷ name)
 unfolding full_name
 resolved_by true space name e = record { again = ap (λ (c : Bool). if c then name else space ++ 46 ∷ name) e; reference = λ h. h }
 resolved_by false space name e =
@@ -240,7 +248,8 @@ resolved space name = resolved_by (is_some (last_dot name) || eqb (length space)
 
 -- ---- the names met so far
 
-begun_by : (c : Bool) (n m : List ℕ) (ms more : List (List ℕ)) → (has_begun n ms ≡ true → has_begun n (ms ++ more) ≡ true) → (if c then true else has_begun n ms) ≡ true → (if c then true else has_begun n (ms ++ more)) ≡ true
+begun_by : (c : Bool) (n m : List ℕ) (ms more : List (List ℕ)) → (has_begun n ms ≡ true → has_begun n (ms ++ more) ≡ true)
+    → (if c then true else has_begun n ms) ≡ true → (if c then true else has_begun n (ms ++ more)) ≡ true
 begun_by true n m ms more h e = refl
 begun_by false n m ms more h e = h e
 
@@ -276,7 +285,9 @@ one_finished : (b : List (List ℕ)) (es : List Named) (e : Named) → AllFinish
 one_finished b [] e h is = (is, tt)
 one_finished b (x ∷ es) e h is = (h.0, one_finished b es e h.1 is)
 
-found_by : (c : Bool) (b : List (List ℕ)) (name : List ℕ) (e : Named) (es : List Named) (s : Schema) → bytes_eq e.name name ≡ c → IsFinished b e → (find name es ≡ Some s → IsFinished b (record { name = name; schema = s })) → (if c then Some e.schema else find name es) ≡ Some s
+found_by : (c : Bool) (b : List (List ℕ)) (name : List ℕ) (e : Named) (es : List Named) (s : Schema) → bytes_eq e.name name ≡ c
+    → IsFinished b e → (find name es ≡ Some s → IsFinished b (record { name = name; schema = s }))
+    → (if c then Some e.schema else find name es) ≡ Some s
     → IsFinished b (record { name = name; schema = s })
 found_by true b name e es s is h more at =
     let same_name : e.name ≡ name = (bytes_eq-Decides e.name name).0 is in
@@ -284,14 +295,16 @@ found_by true b name e es s is h more at =
     subst (λ (t : Schema). IsFinished b (record { name = name; schema = t })) same_schema (subst (λ (n : List ℕ). IsFinished b (record { name = n; schema = e.schema })) same_name h)
 found_by false b name e es s is h more at = more at
 
-found : (b : List (List ℕ)) (name : List ℕ) (es : List Named) (s : Schema) → AllFinished b es → find name es ≡ Some s → IsFinished b (record { name = name; schema = s })
+found : (b : List (List ℕ)) (name : List ℕ) (es : List Named) (s : Schema) → AllFinished b es → find name es ≡ Some s
+    → IsFinished b (record { name = name; schema = s })
 unfolding find
 found b name [] s h at = none_some s at
 found b name (e ∷ es) s h at = found_by (bytes_eq e.name name) b name e es s refl h.0 (λ is. found b name es s h.1 is) at
 
 -- ---- what was read, written and read again
 
-record Again {A : Type 0} (read : Data → Names → Result (A × Names) SchemaFault) (write : A → Writing Data) (place : A → ℕ → Option ℕ) (before : Names) (x : A) (after : Names) : Type 0 where
+record Again {A : Type 0} (read : Data → Names → Result (A × Names) SchemaFault) (write : A → Writing Data)
+    (place : A → ℕ → Option ℕ) (before : Names) (x : A) (after : Names) : Type 0 where
   begun : (write x before.begun).1 ≡ after.begun
   again : read (write x before.begun).0 before ≡ Ok (x, after)
   fits : place x before.left ≡ Some after.left
@@ -299,7 +312,8 @@ record Again {A : Type 0} (read : Data → Names → Result (A × Names) SchemaF
   kept : (n : List ℕ) → has_begun n before.begun ≡ true → has_begun n after.begun ≡ true
   finished : AllFinished after.begun after.finished
 
-record EachAgain {A : Type 0} (read : Data → Names → Result (A × Names) SchemaFault) (write : A → Writing Data) (place : A → Placing) (depth : ℕ) (before : Names) (xs : List A) (after : Names) : Type 0 where
+record EachAgain {A : Type 0} (read : Data → Names → Result (A × Names) SchemaFault) (write : A → Writing Data)
+    (place : A → Placing) (depth : ℕ) (before : Names) (xs : List A) (after : Names) : Type 0 where
   begun : (write_each (map write xs) before.begun).1 ≡ after.begun
   again : each read (items_of (write_each (map write xs) before.begun).0) before ≡ Ok (xs, after)
   fits : place_each (map place xs) depth before.left ≡ Some after.left
@@ -310,7 +324,8 @@ record EachAgain {A : Type 0} (read : Data → Names → Result (A × Names) Sch
 abbrev IsAgain : {A : Type 0} → (Data → Names → Result (A × Names) SchemaFault) → (A → Writing Data) → (A → ℕ → Option ℕ) → Type 0
 IsAgain {A = A} read write place = (d : Data) (before : Names) (r : A × Names) → Texts d → AllFinished before.begun before.finished → read d before ≡ Ok r → Again read write place before r.0 r.1
 
-one_and_others : {A : Type 0} (read : Data → Names → Result (A × Names) SchemaFault) (write : A → Writing Data) (place : A → Placing) (depth : ℕ) (before : Names) (x : A) (between : Names) (xs : List A) (after : Names)
+one_and_others : {A : Type 0} (read : Data → Names → Result (A × Names) SchemaFault) (write : A → Writing Data)
+    (place : A → Placing) (depth : ℕ) (before : Names) (x : A) (between : Names) (xs : List A) (after : Names)
     → Again read write (λ y. place y depth) before x between → EachAgain read write place depth between xs after → EachAgain read write place depth before (x ∷ xs) after
 unfolding each place_each
 one_and_others {A = A} read write place depth before x between xs after one others =
@@ -324,7 +339,8 @@ one_and_others {A = A} read write place depth before x between xs after one othe
       finished = others.finished;
     }
 
-each_again : {A : Type 0} (read : Data → Names → Result (A × Names) SchemaFault) (write : A → Writing Data) (place : A → Placing) (depth : ℕ) → IsAgain read write (λ x. place x depth)
+each_again : {A : Type 0} (read : Data → Names → Result (A × Names) SchemaFault) (write : A → Writing Data) (place : A → Placing)
+    (depth : ℕ) → IsAgain read write (λ x. place x depth)
     → (ds : Items) (before : Names) (r : List A × Names) → EachTexts ds → AllFinished before.begun before.finished → each read ds before ≡ Ok r → EachAgain read write place depth before r.0 r.1
 unfolding each place_each
 each_again {A = A} read write place depth law no_items before r h finished e =
@@ -345,7 +361,8 @@ abbrev SchemaAgain : ℕ → List ℕ → Names → Schema → Names → Type 0
 SchemaAgain depth space = Again (schema_at depth space) written (λ s. placed s depth)
 
 -- one level, one deeper
-record LevelAgain (depth : ℕ) (space : List ℕ) (f : List Named) (b : List (List ℕ)) (l : ℕ) (x : open_schema.Schema-F Schema Field) (after : Names) : Type 0 where
+record LevelAgain (depth : ℕ) (space : List ℕ) (f : List Named) (b : List (List ℕ)) (l : ℕ)
+    (x : open_schema.Schema-F Schema Field) (after : Names) : Type 0 where
   begun : (level_of x b).1 ≡ after.begun
   again : NodeReads depth space (level_of x b).0 (names_of f b (suc l)) (roll-Schema x) after
   fits : inner_of x depth l ≡ Some after.left
@@ -353,7 +370,9 @@ record LevelAgain (depth : ℕ) (space : List ℕ) (f : List Named) (b : List (L
   kept : (n : List ℕ) → has_begun n b ≡ true → has_begun n after.begun ≡ true
   finished : AllFinished after.begun after.finished
 
-level_again : (depth : ℕ) (space : List ℕ) (f : List Named) (b : List (List ℕ)) (l : ℕ) (x : open_schema.Schema-F Schema Field) (after : Names) → LevelAgain depth space f b l x after → SchemaAgain (suc depth) space (names_of f b (suc l)) (roll-Schema x) after
+level_again : (depth : ℕ) (space : List ℕ) (f : List Named) (b : List (List ℕ)) (l : ℕ) (x : open_schema.Schema-F Schema Field)
+    (after : Names) → LevelAgain depth space f b l x after
+    → SchemaAgain (suc depth) space (names_of f b (suc l)) (roll-Schema x) after
 level_again depth space f b l x after h =
     let is : written (roll-Schema x) ≡ level_of x = written_roll x in
     record {
@@ -365,11 +384,13 @@ level_again depth space f b l x after h =
       finished = h.finished;
     }
 
-abbrev Gives : Nodes → Schema × Names → Type 0
-Gives nodes r = nodes ≡ Ok r
+abbrev GivesNamed : Nodes → Schema × Names → Type 0
+GivesNamed nodes r = nodes ≡ Ok r
 
 -- and of the schema of that level, as it was answered
-answered : (depth : ℕ) (space : List ℕ) (f : List Named) (b : List (List ℕ)) (l : ℕ) (x : open_schema.Schema-F Schema Field) (s : Schema) (made after : Names) (r : Schema × Names) → roll-Schema x ≡ s → made ≡ after → Gives (Ok (s, made)) r → LevelAgain depth space f b l x after
+answered : (depth : ℕ) (space : List ℕ) (f : List Named) (b : List (List ℕ)) (l : ℕ) (x : open_schema.Schema-F Schema Field)
+    (s : Schema) (made after : Names) (r : Schema × Names) → roll-Schema x ≡ s → made ≡ after → GivesNamed (Ok (s, made)) r
+    → LevelAgain depth space f b l x after
     → SchemaAgain (suc depth) space (names_of f b (suc l)) r.0 r.1
 answered depth space f b l x s made after r is names e h =
     let one : SchemaAgain (suc depth) space (names_of f b (suc l)) s after = subst (λ (t : Schema). SchemaAgain (suc depth) space (names_of f b (suc l)) t after) is (level_again depth space f b l x after h) in
@@ -378,11 +399,14 @@ answered depth space f b l x s made after r is names e h =
 
 -- ---- named types
 
-begin_ok : (c : Bool) (full : List ℕ) (names r : Names) → has_begun full names.begun ≡ c → (if c then Err Shape else Ok (record names { begun = names.begun ++ full ∷ [] })) ≡ Ok r → (has_begun full names.begun ≡ false) × (record names { begun = names.begun ++ full ∷ [] } ≡ r)
+begin_ok : (c : Bool) (full : List ℕ) (names r : Names) → has_begun full names.begun ≡ c
+    → (if c then Err Shape else Ok (record names { begun = names.begun ++ full ∷ [] })) ≡ Ok r
+    → (has_begun full names.begun ≡ false) × (record names { begun = names.begun ++ full ∷ [] } ≡ r)
 begin_ok true full names r is e = no_ok Shape r e
 begin_ok false full names r is e = (is, same_ok (record names { begun = names.begun ++ full ∷ [] }) r e)
 
-begun_ok : (full : List ℕ) (f : List Named) (b : List (List ℕ)) (l : ℕ) (r : Names) → begin full (used (names_of f b (suc l))) ≡ Ok r → (has_begun full b ≡ false) × (names_of f (b ++ full ∷ []) l ≡ r)
+begun_ok : (full : List ℕ) (f : List Named) (b : List (List ℕ)) (l : ℕ) (r : Names)
+    → begin full (used (names_of f b (suc l))) ≡ Ok r → (has_begun full b ≡ false) × (names_of f (b ++ full ∷ []) l ≡ r)
 unfolding begin
 begun_ok full f b l r e =
     let p = begin_ok (has_begun full b) full (used (names_of f b (suc l))) r refl e in
@@ -393,12 +417,15 @@ unfolding named
 named_short name w b h = ap (λ (c : Bool). if c then (let p : Data × List (List ℕ) = (name_data name, b) in p) else w (b ++ name ∷ [])) h
 
 -- a named type of this level that is finished
-is_finished : (name : List ℕ) (b : List (List ℕ)) (x : open_schema.Schema-F Schema Field) (s : Schema) (w : Writing Data) → roll-Schema x ≡ s → level_of x ≡ named name w → has_begun name b ≡ true → is_utf8 name ≡ true → IsFinished b (record { name = name; schema = s })
+is_finished : (name : List ℕ) (b : List (List ℕ)) (x : open_schema.Schema-F Schema Field) (s : Schema) (w : Writing Data)
+    → roll-Schema x ≡ s → level_of x ≡ named name w → has_begun name b ≡ true → is_utf8 name ≡ true
+    → IsFinished b (record { name = name; schema = s })
 is_finished name b x s w is level begun text =
     record { begun = begun; text = text; short = λ c h. ap (λ (t : Schema). written t c) (sym is) ∙ ap (λ (v : Writing Data). v c) (written_roll x ∙ level) ∙ named_short name w c h }
 
 -- what a named type's level is, by what was written out under its name
-named_level : (depth : ℕ) (space : List ℕ) (f : List Named) (b : List (List ℕ)) (l : ℕ) (x : open_schema.Schema-F Schema Field) (name : List ℕ) (w : Writing Data) (after : Names) → level_of x ≡ named name w → has_begun name b ≡ false
+named_level : (depth : ℕ) (space : List ℕ) (f : List Named) (b : List (List ℕ)) (l : ℕ) (x : open_schema.Schema-F Schema Field)
+    (name : List ℕ) (w : Writing Data) (after : Names) → level_of x ≡ named name w → has_begun name b ≡ false
     → ((w (b ++ name ∷ [])).1 ≡ after.begun) → NodeReads depth space (w (b ++ name ∷ [])).0 (names_of f b (suc l)) (roll-Schema x) after → inner_of x depth l ≡ Some after.left → Good (w (b ++ name ∷ [])).0
     → ((n : List ℕ) → has_begun n (b ++ name ∷ []) ≡ true → has_begun n after.begun ≡ true) → AllFinished after.begun after.finished → LevelAgain depth space f b l x after
 named_level depth space f b l x name w after level new begun again fits good kept finished =
@@ -414,7 +441,8 @@ named_level depth space f b l x name w after level new begun again fits good kep
 
 -- ---- fields
 
-fields_part : (depth : ℕ) (space name : List ℕ) (id : Option ℤ) (before : Names) (s : Schema) (after : Names) → is_utf8 name ≡ true → is_id id ≡ true → SchemaAgain depth space before s after
+fields_part : (depth : ℕ) (space name : List ℕ) (id : Option ℤ) (before : Names) (s : Schema) (after : Names)
+    → is_utf8 name ≡ true → is_id id ≡ true → SchemaAgain depth space before s after
     → Again (field (schema_at depth) space) written_field (λ f. placed_field f depth) before (roll-Field (record { name = name; id = id; schema = s })) after
 unfolding field_data
 fields_part depth space name id before s after text has_id part =
@@ -450,8 +478,9 @@ NodeAgain depth d nodes space f b l = (r : Schema × Names) → Texts d → IsUt
 abbrev Answered : ℕ → List ℕ → List Named → List (List ℕ) → ℕ → Schema × Names → Type 0
 Answered depth space f b l r = SchemaAgain (suc depth) space (names_of f b (suc l)) r.0 r.1
 
-record_part : (depth : ℕ) (space full : List ℕ) (f : List Named) (b : List (List ℕ)) (l : ℕ) (fields : List Field) (after : Names) (r : Schema × Names) → is_utf8 full ≡ true → has_begun full b ≡ false
-    → EachAgain (field (schema_at depth) (space_of full)) written_field placed_field depth (names_of f (b ++ full ∷ []) l) fields after → Gives (Ok (finish full (schema.Record full fields) after)) r → Answered depth space f b l r
+record_part : (depth : ℕ) (space full : List ℕ) (f : List Named) (b : List (List ℕ)) (l : ℕ) (fields : List Field) (after : Names)
+    (r : Schema × Names) → is_utf8 full ≡ true → has_begun full b ≡ false
+    → EachAgain (field (schema_at depth) (space_of full)) written_field placed_field depth (names_of f (b ++ full ∷ []) l) fields after → GivesNamed (Ok (finish full (schema.Record full fields) after)) r → Answered depth space f b l r
 record_part depth space full f b l fields after r text new parts e =
     let x : open_schema.Schema-F Schema Field = open_schema.Record full fields in
     let s : Schema = schema.Record full fields in
@@ -464,7 +493,8 @@ record_part depth space full f b l fields after r text new parts e =
     (named_level depth space f b l x full w done refl new parts.begun (record_read full fields items depth space f after.finished b after.begun l after.left text new parts.again) parts.fits
     (record_is_good full items text parts.good) parts.kept (one_finished after.begun after.finished (record { name = full; schema = s }) parts.finished mine))
 
-record_again : (depth : ℕ) → Deep depth → (d : Data) (space : List ℕ) (f : List Named) (b : List (List ℕ)) (l : ℕ) → NodeAgain depth d (record_node (schema_at depth) space d (names_of f b (suc l))) space f b l
+record_again : (depth : ℕ) → Deep depth → (d : Data) (space : List ℕ) (f : List Named) (b : List (List ℕ)) (l : ℕ)
+    → NodeAgain depth d (record_node (schema_at depth) space d (names_of f b (suc l))) space f b l
 unfolding record_node
 record_again depth deep d space f b l r h hs finished e =
     let before : Names = names_of f b (suc l) in
@@ -488,7 +518,8 @@ symbol_ok d before r h e =
     let P : List ℕ × Names → Type 0 = λ x. (is_utf8 x.0 ≡ true) × (before ≡ x.1) in
     needed_then P (as_str d) (λ text. Ok (text, before)) (λ text at y is. subst P (same_ok (text, before) y is) (is_utf8-from_IsUtf8 text (str_text d text h at), refl)) r e
 
-symbols_ok : (ds : Items) (before : Names) (r : List (List ℕ) × Names) → EachTexts ds → each symbol ds before ≡ Ok r → (list_all is_utf8 r.0 ≡ true) × (before ≡ r.1)
+symbols_ok : (ds : Items) (before : Names) (r : List (List ℕ) × Names) → EachTexts ds → each symbol ds before ≡ Ok r
+    → (list_all is_utf8 r.0 ≡ true) × (before ≡ r.1)
 unfolding each symbol
 symbols_ok no_items before r h e =
     let none : List (List ℕ) × Names = ([], before) in
@@ -501,8 +532,9 @@ symbols_ok (item d ds) before r h e =
     let rest = symbols_ok ds first.1 others h.1 more in
     subst P (same_ok (first.0 ∷ others.0, others.1) y is) (ap (λ (c : Bool). c && list_all is_utf8 others.0) one.0 ∙ rest.0, one.1 ∙ rest.1)))) r e
 
-enum_part : (depth : ℕ) (space full : List ℕ) (f : List Named) (b : List (List ℕ)) (l : ℕ) (ns : List (List ℕ)) (after : Names) (r : Schema × Names) → is_utf8 full ≡ true → has_begun full b ≡ false → list_all is_utf8 ns ≡ true → AllFinished b f
-    → names_of f (b ++ full ∷ []) l ≡ after → Gives (Ok (finish full (schema.Enum full ns) after)) r → Answered depth space f b l r
+enum_part : (depth : ℕ) (space full : List ℕ) (f : List Named) (b : List (List ℕ)) (l : ℕ) (ns : List (List ℕ)) (after : Names)
+    (r : Schema × Names) → is_utf8 full ≡ true → has_begun full b ≡ false → list_all is_utf8 ns ≡ true → AllFinished b f
+    → names_of f (b ++ full ∷ []) l ≡ after → GivesNamed (Ok (finish full (schema.Enum full ns) after)) r → Answered depth space f b l r
 enum_part depth space full f b l ns after r text new texts finished same e =
     let x : open_schema.Schema-F Schema Field = open_schema.Enum full ns in
     let s : Schema = schema.Enum full ns in
@@ -514,7 +546,8 @@ enum_part depth space full f b l ns after r text new texts finished same e =
     answered depth space f b l x s (finish full s after).1 done r is (ap (λ (n : Names). (finish full s n).1) (sym same)) e
     (named_level depth space f b l x full w done refl new refl (enum_read full ns depth space f b l text texts new) refl (enum_is_good full ns text texts) (λ n g. g) (one_finished more f (record { name = full; schema = s }) (more_begun b (full ∷ []) f finished) mine))
 
-enum_again : (depth : ℕ) (d : Data) (space : List ℕ) (f : List Named) (b : List (List ℕ)) (l : ℕ) → NodeAgain depth d (enum_node space d (names_of f b (suc l))) space f b l
+enum_again : (depth : ℕ) (d : Data) (space : List ℕ) (f : List Named) (b : List (List ℕ)) (l : ℕ)
+    → NodeAgain depth d (enum_node space d (names_of f b (suc l))) space f b l
 unfolding enum_node
 enum_again depth d space f b l r h hs finished e =
     let before : Names = names_of f b (suc l) in
@@ -529,8 +562,10 @@ enum_again depth d space f b l r h hs finished e =
     let all = symbols_ok items begun inner (items_here (codes "symbols") d items h at) parts in
     enum_part depth space (full name) f b l inner.0 inner.1 y (defined_text space name d h hs (text_here (codes "name") d name h named)) new.0 all.0 finished (new.1 ∙ all.1) is))))) r e
 
-fixed_part : (depth : ℕ) (space full : List ℕ) (f : List Named) (b : List (List ℕ)) (l size : ℕ) (logical : Logical) (after : Names) (r : Schema × Names) → is_utf8 full ≡ true → has_begun full b ≡ false → is_logical logical ≡ true → size < 2 ^ 64 → AllFinished b f
-    → names_of f (b ++ full ∷ []) l ≡ after → Gives (Ok (finish full (schema.Fixed full size logical) after)) r → Answered depth space f b l r
+fixed_part : (depth : ℕ) (space full : List ℕ) (f : List Named) (b : List (List ℕ)) (l size : ℕ) (logical : Logical)
+    (after : Names) (r : Schema × Names) → is_utf8 full ≡ true → has_begun full b ≡ false → is_logical logical ≡ true
+    → size < 2 ^ 64 → AllFinished b f
+    → names_of f (b ++ full ∷ []) l ≡ after → GivesNamed (Ok (finish full (schema.Fixed full size logical) after)) r → Answered depth space f b l r
 fixed_part depth space full f b l size logical after r text new type small finished same e =
     let x : open_schema.Schema-F Schema Field = open_schema.Fixed full size logical in
     let s : Schema = schema.Fixed full size logical in
@@ -542,7 +577,8 @@ fixed_part depth space full f b l size logical after r text new type small finis
     answered depth space f b l x s (finish full s after).1 done r is (ap (λ (n : Names). (finish full s n).1) (sym same)) e
     (named_level depth space f b l x full w done refl new refl (fixed_read full size logical depth space f b l text type new) refl (fixed_is_good full size logical text type small) (λ n g. g) (one_finished more f (record { name = full; schema = s }) (more_begun b (full ∷ []) f finished) mine))
 
-fixed_again : (depth : ℕ) (d : Data) (space : List ℕ) (f : List Named) (b : List (List ℕ)) (l : ℕ) → NodeAgain depth d (fixed_node space d (names_of f b (suc l))) space f b l
+fixed_again : (depth : ℕ) (d : Data) (space : List ℕ) (f : List Named) (b : List (List ℕ)) (l : ℕ)
+    → NodeAgain depth d (fixed_node space d (names_of f b (suc l))) space f b l
 unfolding fixed_node
 fixed_again depth d space f b l r h hs finished e =
     let before : Names = names_of f b (suc l) in
@@ -557,15 +593,17 @@ fixed_again depth d space f b l r h hs finished e =
 
 -- ---- arrays, maps and unions
 
-array_part : (depth : ℕ) (space : List ℕ) (f : List Named) (b : List (List ℕ)) (l : ℕ) (element : Option ℤ) (map : Bool) (s : Schema) (after : Names) (r : Schema × Names) → is_id element ≡ true → SchemaAgain depth space (names_of f b l) s after
-    → Gives (Ok (schema.Array s element map, after)) r → Answered depth space f b l r
+array_part : (depth : ℕ) (space : List ℕ) (f : List Named) (b : List (List ℕ)) (l : ℕ) (element : Option ℤ) (map : Bool)
+    (s : Schema) (after : Names) (r : Schema × Names) → is_id element ≡ true → SchemaAgain depth space (names_of f b l) s after
+    → GivesNamed (Ok (schema.Array s element map, after)) r → Answered depth space f b l r
 unfolding array_data
 array_part depth space f b l element map s after r id part e =
     let i : Data = (written s b).0 in
     answered depth space f b l (open_schema.Array s element map) (schema.Array s element map) after after r (schema.rolls-Array s element map) refl e
     (record { begun = part.begun; again = array_read s element map i depth space f b l after id part.again; fits = part.fits; good = array_is_good i element map id part.good; kept = part.kept; finished = part.finished })
 
-array_again : (depth : ℕ) → Deep depth → (d : Data) (space : List ℕ) (f : List Named) (b : List (List ℕ)) (l : ℕ) → NodeAgain depth d (array_node (schema_at depth) space d (names_of f b (suc l))) space f b l
+array_again : (depth : ℕ) → Deep depth → (d : Data) (space : List ℕ) (f : List Named) (b : List (List ℕ)) (l : ℕ)
+    → NodeAgain depth d (array_node (schema_at depth) space d (names_of f b (suc l))) space f b l
 unfolding array_node
 array_again depth deep d space f b l r h hs finished e =
     let before : Names = names_of f b (suc l) in
@@ -577,15 +615,18 @@ array_again depth deep d space f b l r h hs finished e =
     array_part depth space f b l element (is_map d) inner.0 inner.1 y (id_here (codes "element-id") d)
     (deep space hs items (names_of f b l) inner (get_texts (codes "items") d items h at) finished (ap (λ (n : Names). schema_at depth space items n) (sym (used_is f b l)) ∙ reads)) is)) r e
 
-map_part : (depth : ℕ) (space : List ℕ) (f : List Named) (b : List (List ℕ)) (l : ℕ) (key value : Option ℤ) (s : Schema) (after : Names) (r : Schema × Names) → is_id key ≡ true → is_id value ≡ true → SchemaAgain depth space (names_of f b l) s after
-    → Gives (Ok (schema.Map s key value, after)) r → Answered depth space f b l r
+map_part : (depth : ℕ) (space : List ℕ) (f : List Named) (b : List (List ℕ)) (l : ℕ) (key value : Option ℤ) (s : Schema)
+    (after : Names) (r : Schema × Names) → is_id key ≡ true → is_id value ≡ true
+    → SchemaAgain depth space (names_of f b l) s after
+    → GivesNamed (Ok (schema.Map s key value, after)) r → Answered depth space f b l r
 unfolding map_data
 map_part depth space f b l key value s after r key_id value_id part e =
     let i : Data = (written s b).0 in
     answered depth space f b l (open_schema.Map s key value) (schema.Map s key value) after after r (schema.rolls-Map s key value) refl e
     (record { begun = part.begun; again = map_read s key value i depth space f b l after key_id value_id part.again; fits = part.fits; good = map_is_good i key value key_id value_id part.good; kept = part.kept; finished = part.finished })
 
-map_again : (depth : ℕ) → Deep depth → (d : Data) (space : List ℕ) (f : List Named) (b : List (List ℕ)) (l : ℕ) → NodeAgain depth d (map_node (schema_at depth) space d (names_of f b (suc l))) space f b l
+map_again : (depth : ℕ) → Deep depth → (d : Data) (space : List ℕ) (f : List Named) (b : List (List ℕ)) (l : ℕ)
+    → NodeAgain depth d (map_node (schema_at depth) space d (names_of f b (suc l))) space f b l
 unfolding map_node
 map_again depth deep d space f b l r h hs finished e =
     let before : Names = names_of f b (suc l) in
@@ -598,7 +639,9 @@ map_again depth deep d space f b l r h hs finished e =
     map_part depth space f b l key value inner.0 inner.1 y (id_here (codes "key-id") d) (id_here (codes "value-id") d)
     (deep space hs values (names_of f b l) inner (get_texts (codes "values") d values h at) finished (ap (λ (n : Names). schema_at depth space values n) (sym (used_is f b l)) ∙ reads)) is)) r e
 
-union_again : (depth : ℕ) → Deep depth → (branches : Items) (space : List ℕ) (f : List Named) (b : List (List ℕ)) (l : ℕ) (r : Schema × Names) → EachTexts branches → IsUtf8 space → AllFinished b f → union_node (schema_at depth) space branches (names_of f b (suc l)) ≡ Ok r
+union_again : (depth : ℕ) → Deep depth → (branches : Items) (space : List ℕ) (f : List Named) (b : List (List ℕ)) (l : ℕ)
+    (r : Schema × Names) → EachTexts branches → IsUtf8 space → AllFinished b f
+    → union_node (schema_at depth) space branches (names_of f b (suc l)) ≡ Ok r
     → Answered depth space f b l r
 unfolding union_node
 union_again depth deep branches space f b l r h hs finished e =
@@ -612,12 +655,15 @@ union_again depth deep branches space f b l r h hs finished e =
 
 -- ---- names
 
-placed_by : (depth : ℕ) (s : Schema) (o : Option ℕ) (before : Names) (r : Schema × Names) → placed s depth before.left ≡ o → if_placed s o before ≡ Ok r → (left : ℕ) × (placed s depth before.left ≡ Some left) × ((s, record before { left = left }) ≡ r)
+placed_by : (depth : ℕ) (s : Schema) (o : Option ℕ) (before : Names) (r : Schema × Names) → placed s depth before.left ≡ o
+    → if_placed s o before ≡ Ok r → (left : ℕ) × (placed s depth before.left ≡ Some left)
+    × ((s, record before { left = left }) ≡ r)
 placed_by depth s None before r is e = no_ok Depth r e
 placed_by depth s (Some left) before r is e = let p : Schema × Names = (s, record before { left = left }) in (left, is, same_ok p r e)
 
 -- where a name that a type was finished under stands, it stands again
-name_read : (depth : ℕ) (space full : List ℕ) (s : Schema) (f : List Named) (b : List (List ℕ)) (l left : ℕ) → word_of full ≡ word.Name → full_name space full ≡ full → find full f ≡ Some s → placed s (suc depth) (suc l) ≡ Some left
+name_read : (depth : ℕ) (space full : List ℕ) (s : Schema) (f : List Named) (b : List (List ℕ)) (l left : ℕ)
+    → word_of full ≡ word.Name → full_name space full ≡ full → find full f ≡ Some s → placed s (suc depth) (suc l) ≡ Some left
     → NodeReads depth space (string full) (names_of f b (suc l)) s (names_of f b left)
 unfolding typed type_name name_node
 name_read depth space full s f b l left is again at fits =
@@ -628,7 +674,9 @@ name_read depth space full s f b l left is again at fits =
     ∙ ap (λ (o : Option Schema). referred (suc depth) full o before) at
     ∙ ap (λ (o : Option ℕ). if_placed s o before) fits
 
-found_again : (depth : ℕ) (space name : List ℕ) (o : Option Schema) (f : List Named) (b : List (List ℕ)) (l : ℕ) (r : Schema × Names) → word_of name ≡ word.Name → AllFinished b f → find (full_name space name) f ≡ o → referred (suc depth) name o (names_of f b (suc l)) ≡ Ok r
+found_again : (depth : ℕ) (space name : List ℕ) (o : Option Schema) (f : List Named) (b : List (List ℕ)) (l : ℕ)
+    (r : Schema × Names) → word_of name ≡ word.Name → AllFinished b f → find (full_name space name) f ≡ o
+    → referred (suc depth) name o (names_of f b (suc l)) ≡ Ok r
     → SchemaAgain (suc depth) space (names_of f b (suc l)) r.0 r.1
 found_again depth space name None f b l r is finished at e = no_ok (TypeName name) r e
 found_again depth space name (Some s) f b l r is finished at e =
@@ -648,13 +696,17 @@ found_again depth space name (Some s) f b l r is finished at e =
       finished = finished;
     })
 
-name_again : (depth : ℕ) (space name : List ℕ) (f : List Named) (b : List (List ℕ)) (l : ℕ) (r : Schema × Names) → word_of name ≡ word.Name → AllFinished b f → name_node (suc depth) space name (names_of f b (suc l)) ≡ Ok r → SchemaAgain (suc depth) space (names_of f b (suc l)) r.0 r.1
+name_again : (depth : ℕ) (space name : List ℕ) (f : List Named) (b : List (List ℕ)) (l : ℕ) (r : Schema × Names)
+    → word_of name ≡ word.Name → AllFinished b f → name_node (suc depth) space name (names_of f b (suc l)) ≡ Ok r
+    → SchemaAgain (suc depth) space (names_of f b (suc l)) r.0 r.1
 unfolding name_node
 name_again depth space name f b l r is finished e = found_again depth space name (find (full_name space name) f) f b l r is finished refl e
 
 -- ---- a node
 
-leaf_again : (depth : ℕ) (space : List ℕ) (f : List Named) (b : List (List ℕ)) (l : ℕ) (x : open_schema.Schema-F Schema Field) (s : Schema) (w : Data) (r : Schema × Names) → roll-Schema x ≡ s → AllFinished b f → Gives (Ok (s, used (names_of f b (suc l)))) r
+leaf_again : (depth : ℕ) (space : List ℕ) (f : List Named) (b : List (List ℕ)) (l : ℕ) (x : open_schema.Schema-F Schema Field)
+    (s : Schema) (w : Data) (r : Schema × Names) → roll-Schema x ≡ s → AllFinished b f
+    → GivesNamed (Ok (s, used (names_of f b (suc l)))) r
     → level_of x b ≡ (w, b) → NodeReads depth space w (names_of f b (suc l)) (roll-Schema x) (names_of f b l) → inner_of x depth l ≡ Some l → Good w → SchemaAgain (suc depth) space (names_of f b (suc l)) r.0 r.1
 leaf_again depth space f b l x s w r is finished e out again fits good =
     answered depth space f b l x s (used (names_of f b (suc l))) (names_of f b l) r is (used_is f b l) e
@@ -667,7 +719,9 @@ leaf_again depth space f b l x s w r is finished e out again fits good =
       finished = finished;
     })
 
-typed_again : (depth : ℕ) → Deep depth → (w : words.Word) (name : List ℕ) (d : Data) (space : List ℕ) (f : List Named) (b : List (List ℕ)) (l : ℕ) → word_of name ≡ w → NodeAgain depth d (typed (schema_at depth) (suc depth) space w name d (names_of f b (suc l))) space f b l
+typed_again : (depth : ℕ) → Deep depth → (w : words.Word) (name : List ℕ) (d : Data) (space : List ℕ) (f : List Named)
+    (b : List (List ℕ)) (l : ℕ) → word_of name ≡ w → NodeAgain depth d (typed (schema_at depth)
+    (suc depth) space w name d (names_of f b (suc l))) space f b l
 unfolding typed
 typed_again depth deep word.Null name d space f b l is r h hs finished e = leaf_again depth space f b l open_schema.Null schema.Null (string (codes "null")) r schema.rolls-Null finished e refl (null_read depth space f b l) refl (is_text (codes "null") refl)
 typed_again depth deep word.Boolean name d space f b l is r h hs finished e = leaf_again depth space f b l open_schema.Boolean schema.Boolean (string (codes "boolean")) r schema.rolls-Boolean finished e refl (boolean_read depth space f b l) refl (is_text (codes "boolean") refl)
@@ -688,13 +742,15 @@ typed_again depth deep word.Map name d space f b l is r h hs finished e = map_ag
 typed_again depth deep word.Fixed name d space f b l is r h hs finished e = fixed_again depth d space f b l r h hs finished e
 typed_again depth deep word.Name name d space f b l is r h hs finished e = name_again depth space name f b l r is finished e
 
-single_again : (depth : ℕ) → Deep depth → (d : Data) (space : List ℕ) (f : List Named) (b : List (List ℕ)) (l : ℕ) → NodeAgain depth d (single (schema_at depth) (suc depth) space d (names_of f b (suc l))) space f b l
+single_again : (depth : ℕ) → Deep depth → (d : Data) (space : List ℕ) (f : List Named) (b : List (List ℕ)) (l : ℕ)
+    → NodeAgain depth d (single (schema_at depth) (suc depth) space d (names_of f b (suc l))) space f b l
 unfolding single
 single_again depth deep d space f b l r h hs finished e =
     needed_then (λ y. Answered depth space f b l y) (type_name d) (λ name. typed (schema_at depth) (suc depth) space (word_of name) name d (names_of f b (suc l)))
     (λ name at y is. typed_again depth deep (word_of name) name d space f b l refl y h hs finished is) r e
 
-node_again : (depth : ℕ) → Deep depth → (o : Option Items) (d : Data) (space : List ℕ) (f : List Named) (b : List (List ℕ)) (l : ℕ) → as_array d ≡ o → NodeAgain depth d (node (schema_at depth) (suc depth) space o d (names_of f b (suc l))) space f b l
+node_again : (depth : ℕ) → Deep depth → (o : Option Items) (d : Data) (space : List ℕ) (f : List Named) (b : List (List ℕ))
+    (l : ℕ) → as_array d ≡ o → NodeAgain depth d (node (schema_at depth) (suc depth) space o d (names_of f b (suc l))) space f b l
 node_again depth deep (Some branches) d space f b l is r h hs finished e = union_again depth deep branches space f b l r (array_texts d branches h is) hs finished e
 node_again depth deep None d space f b l is r h hs finished e = single_again depth deep d space f b l r h hs finished e
 
@@ -740,6 +796,6 @@ json_by None s e = no_ok Json s e
 json_by (Some d) s e = (d, refl, e)
 
 -- what a text was read as is read again
-pub text_again : (bytes : List ℕ) (s : Schema) → schema_from bytes ≡ Ok s → IsRead s
+pub read_text_again : (bytes : List ℕ) (s : Schema) → schema_from bytes ≡ Ok s → IsRead s
 unfolding schema_from
-text_again bytes s e = let d = json_by (json_of bytes) s e in data_again d.0 s (json_texts bytes d.0 d.1) d.2
+read_text_again bytes s e = let d = json_by (json_of bytes) s e in data_again d.0 s (json_texts bytes d.0 d.1) d.2

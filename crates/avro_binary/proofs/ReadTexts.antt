@@ -141,7 +141,8 @@ no_surrogate u small high low = elim (cases_lt u 55296) [
   ]
 ]
 
-unit_step : (high low : Bool) (u : ℕ) (xs s : List ℕ) → is_high_surrogate u ≡ high → is_low_surrogate u ≡ low → u < 65536 → IsUtf8 xs → TextOf (after_high u) xs → TextOf plain xs
+unit_step : (high low : Bool) (u : ℕ) (xs s : List ℕ) → is_high_surrogate u ≡ high → is_low_surrogate u ≡ low → u < 65536
+    → IsUtf8 xs → TextOf (after_high u) xs → TextOf plain xs
     → cond high (content (after_high u) xs) (cond low None (prepend (encode_utf8 u) (content plain xs))) ≡ Some s → IsUtf8 s
 unit_step true low u xs s is l small text pair more e = pair s is text e
 unit_step false true u xs s h is small text pair more e = none_some s e
@@ -159,7 +160,8 @@ pair_scalar h l high low =
     let b1 : l < 0xe000 = ltb-true l 0xe000 b.1 in
     high_scalar (surrogate_pair h l) (omega arith) (omega arith)
 
-low_step : (low : Bool) (h l : ℕ) (xs s : List ℕ) → is_low_surrogate l ≡ low → is_high_surrogate h ≡ true → IsUtf8 xs → TextOf plain xs → cond low (prepend (encode_utf8 (surrogate_pair h l)) (content plain xs)) None ≡ Some s → IsUtf8 s
+low_step : (low : Bool) (h l : ℕ) (xs s : List ℕ) → is_low_surrogate l ≡ low → is_high_surrogate h ≡ true → IsUtf8 xs
+    → TextOf plain xs → cond low (prepend (encode_utf8 (surrogate_pair h l)) (content plain xs)) None ≡ Some s → IsUtf8 s
 low_step true h l xs s is high text more e =
     let r = map_some (λ (t : List ℕ). encode_utf8 (surrogate_pair h l) ++ t) (content plain xs) s e in
     subst IsUtf8 r.2 (IsUtf8-append (encode_utf8 (surrogate_pair h l)) r.0 (IsUtf8-encode (surrogate_pair h l) (pair_scalar h l high is)) (more [] r.0 text r.1))
@@ -227,7 +229,8 @@ abbrev TokenTexts : List Token → Type 0
 TokenTexts [] = Unit {0}
 TokenTexts (t ∷ ts) = TokenText t × TokenTexts ts
 
-operator_by : (a b c d e : Bool) → LexemeText (cond a (lex.token begin_object) (cond b (lex.token end_object) (cond c (lex.token begin_array) (cond d (lex.token end_array) (cond e lex.comma lex.colon)))))
+operator_by : (a b c d e : Bool) → LexemeText (cond a (lex.token begin_object)
+    (cond b (lex.token end_object) (cond c (lex.token begin_array) (cond d (lex.token end_array) (cond e lex.comma lex.colon)))))
 operator_by true b c d e = tt
 operator_by false true c d e = tt
 operator_by false false true d e = tt
@@ -276,7 +279,8 @@ quote_is x e =
     let is : x ≡ 34 = eqb-true x 34 (quote_by (x == 34) (x == 92) (is_operator x) (is_space x) e) in
     omega arith
 
-lex_step : (m : lex.Mode) (c : lex.Class) (x : ℕ) (pre xs : List ℕ) → lex.class x ≡ c → IsUtf8 (pre ++ x ∷ xs) → ((next : lex.Mode) → LexemeTexts (lex.lex next xs)) → LexemeTexts (lex.lex_byte m c x xs (λ next. lex.lex next xs))
+lex_step : (m : lex.Mode) (c : lex.Class) (x : ℕ) (pre xs : List ℕ) → lex.class x ≡ c → IsUtf8 (pre ++ x ∷ xs)
+    → ((next : lex.Mode) → LexemeTexts (lex.lex next xs)) → LexemeTexts (lex.lex_byte m c x xs (λ next. lex.lex next xs))
 lex_step lex.between lex.quote x pre xs is u more = (string_text (content plain xs) (λ s e. content_text plain xs [] s (cut_after pre x xs (quote_is x is) u) e), more lex.in_string)
 lex_step lex.between lex.backslash x pre xs is u more = (tt, more lex.in_word)
 lex_step lex.between lex.operator x pre xs is u more = (operator_by _ _ _ _ _, more lex.between)
@@ -301,11 +305,13 @@ lexemes (x ∷ xs) pre m u = lex_step m (lex.class x) x pre xs refl u (λ next. 
 
 -- ---- tokens
 
-allowed : (b : Bool) (t : Token) (k : lex.Place → List Token) (next : lex.Place) → TokenText t → ((p : lex.Place) → TokenTexts (k p)) → TokenTexts (lex.if_allowed b t k next)
+allowed : (b : Bool) (t : Token) (k : lex.Place → List Token) (next : lex.Place) → TokenText t
+    → ((p : lex.Place) → TokenTexts (k p)) → TokenTexts (lex.if_allowed b t k next)
 allowed true t k next h more = (h, more next)
 allowed false t k next h more = (tt, tt)
 
-placed_token : (p : lex.Place) (t : Token) (before_colon : Bool) (k : lex.Place → List Token) → TokenText t → ((q : lex.Place) → TokenTexts (k q)) → TokenTexts (lex.place_token p t before_colon k)
+placed_token : (p : lex.Place) (t : Token) (before_colon : Bool) (k : lex.Place → List Token) → TokenText t
+    → ((q : lex.Place) → TokenTexts (k q)) → TokenTexts (lex.place_token p t before_colon k)
 placed_token p begin_object b k h more = allowed (lex.may_begin p) begin_object k lex.fresh tt more
 placed_token p end_object b k h more = allowed (lex.may_close p) end_object k lex.after_value tt more
 placed_token p begin_array b k h more = allowed (lex.may_begin p) begin_array k lex.fresh tt more
@@ -360,7 +366,9 @@ abbrev mutual
 abbrev Parses : {A : Type 0} → (A → Type 0) → json.Parse A → Type 0
 Parses {A = A} P parse = (ts : List Token) (r : A × List Token) → TokenTexts ts → parse ts ≡ Some r → P r.0 × TokenTexts r.1
 
-mapped : {A B : Type 0} (P : A → Type 0) (Q : B → Type 0) (f : A → B) (o : Option (A × List Token)) (r : B × List Token) → ((a : A) → P a → Q (f a)) → ((x : A × List Token) → o ≡ Some x → P x.0 × TokenTexts x.1) → json.parse_map f o ≡ Some r → Q r.0 × TokenTexts r.1
+mapped : {A B : Type 0} (P : A → Type 0) (Q : B → Type 0) (f : A → B) (o : Option (A × List Token)) (r : B × List Token)
+    → ((a : A) → P a → Q (f a)) → ((x : A × List Token) → o ≡ Some x → P x.0 × TokenTexts x.1) → json.parse_map f o ≡ Some r
+    → Q r.0 × TokenTexts r.1
 mapped {A = A} P Q f o r h parts e =
     let x = map_some (λ (p : A × List Token). (f p.0, p.1)) o r e in
     let p = parts x.0 x.1 in
@@ -392,7 +400,9 @@ keyed (boolean b ∷ ts) r h e = none_some r e
 keyed (null ∷ ts) r h e = none_some r e
 keyed (bad ∷ ts) r h e = none_some r e
 
-item_step : (value : json.Parse json.Json) (more : json.Parse json.Items) (ts : List Token) (o : Option (List Token)) (r : json.Items × List Token) → Parses JsonText value → Parses ItemTexts more → TokenTexts ts → json.after_end_array ts ≡ o → json.items_step value more ts o ≡ Some r
+item_step : (value : json.Parse json.Json) (more : json.Parse json.Items) (ts : List Token) (o : Option (List Token))
+    (r : json.Items × List Token) → Parses JsonText value → Parses ItemTexts more → TokenTexts ts → json.after_end_array ts ≡ o
+    → json.items_step value more ts o ≡ Some r
     → ItemTexts r.0 × TokenTexts r.1
 item_step value more ts (Some rest) r v m h is e = subst (λ (x : json.Items × List Token). ItemTexts x.0 × TokenTexts x.1) (same_some (json.no_items, rest) r e) (tt, ended ts rest h is)
 item_step value more ts None r v m h is e =
@@ -405,7 +415,9 @@ unfolding json.items
 items_text value zero v ts r h e = none_some r e
 items_text value (suc n) v ts r h e = item_step value (json.items value n) ts (json.after_end_array ts) r v (items_text value n v) h refl e
 
-member_step : (value : json.Parse json.Json) (more : json.Parse json.Members) (k : Option (List ℕ)) (ts : List Token) (r : json.Members × List Token) → Parses JsonText value → Parses MemberTexts more → TokenTexts ts → json.members_step value more k ts ≡ Some r
+member_step : (value : json.Parse json.Json) (more : json.Parse json.Members) (k : Option (List ℕ)) (ts : List Token)
+    (r : json.Members × List Token) → Parses JsonText value → Parses MemberTexts more → TokenTexts ts
+    → json.members_step value more k ts ≡ Some r
     → MemberTexts r.0 × TokenTexts r.1
 member_step value more None ts r v m h e = subst (λ (x : json.Members × List Token). MemberTexts x.0 × TokenTexts x.1) (same_some (json.no_members, ts) r e) (tt, h)
 member_step value more (Some k) ts r v m h e =
@@ -465,7 +477,9 @@ abbrev mutual
   MembersTexts values.no_members = Unit {0}
   MembersTexts (values.member k d ms) = Texts d × MembersTexts ms
 
-put_texts_step : (o : Ordering) (k l : List ℕ) (d e : values.Data) (ms : values.Members) → Texts d → Texts e → MembersTexts ms → MembersTexts (values.put k d ms) → MembersTexts (match_ordering o (values.member k d (values.member l e ms)) (values.member l d ms) (values.member l e (values.put k d ms)))
+put_texts_step : (o : Ordering) (k l : List ℕ) (d e : values.Data) (ms : values.Members) → Texts d → Texts e → MembersTexts ms
+    → MembersTexts (values.put k d ms) → MembersTexts (match_ordering o (values.member k d (values.member l e ms))
+    (values.member l d ms) (values.member l e (values.put k d ms)))
 put_texts_step ordering.Less k l d e ms hd he h hput = (hd, (he, h))
 put_texts_step ordering.Equal k l d e ms hd he h hput = (hd, h)
 put_texts_step ordering.Greater k l d e ms hd he h hput = (he, hput)

@@ -31,14 +31,17 @@ abbrev pub ProvedField : (Field → Type 0) → Type 0
 ProvedField Q = (f : Field) × Q f
 
 -- P holds of each level over parts that it holds of
-pub by_levels : (P : Schema → Type 0) (Q : Field → Type 0) → ((y : open_schema.Schema-F (Proved P) (ProvedField Q)) → P (roll-Schema (map-Schema (Proved P) (ProvedField Q) Schema Field (λ e. e.0) (λ e. e.0) y)))
+pub by_levels : (P : Schema → Type 0) (Q : Field → Type 0) → ((y : open_schema.Schema-F (Proved P) (ProvedField Q))
+    → P (roll-Schema (map-Schema (Proved P) (ProvedField Q) Schema Field (λ e. e.0) (λ e. e.0) y)))
     → ((y : open_schema.Field-F (Proved P) (ProvedField Q)) → Q (roll-Field (map-Field (Proved P) (ProvedField Q) Schema Field (λ e. e.0) (λ e. e.0) y))) → (s : Schema) → P s
 by_levels P Q level field = ind-Schema P Q (λ x y is. subst (λ z. P (roll-Schema z)) is (level y)) (λ x y is. subst (λ z. Q (roll-Field z)) is (field y))
 
-pub written_roll : (x : open_schema.Schema-F Schema Field) → written (roll-Schema x) ≡ written_level (map-Schema Schema Field (Writing Data) (Writing Data) written written_field x)
+pub written_roll : (x : open_schema.Schema-F Schema Field)
+    → written (roll-Schema x) ≡ written_level (map-Schema Schema Field (Writing Data) (Writing Data) written written_field x)
 written_roll x = fold-roll-Schema (Writing Data) (Writing Data) written_level field_level x
 
-pub written_field_roll : (x : open_schema.Field-F Schema Field) → written_field (roll-Field x) ≡ field_level (map-Field Schema Field (Writing Data) (Writing Data) written written_field x)
+pub written_field_roll : (x : open_schema.Field-F Schema Field)
+    → written_field (roll-Field x) ≡ field_level (map-Field Schema Field (Writing Data) (Writing Data) written written_field x)
 written_field_roll x = fold-roll-Field (Writing Data) (Writing Data) written_level field_level x
 
 -- ---- keys
@@ -54,7 +57,8 @@ right_of : (a b : Bool) → (a || b) ≡ false → b ≡ false
 right_of true b h = absurd cc
 right_of false b h = h
 
-placed : (o : Ordering) (k l : List ℕ) (d e : Data) (ms : Members) → has_float d ≡ false → has_float e ≡ false → members_have_float ms ≡ false → members_have_float (put k d ms) ≡ false
+placed : (o : Ordering) (k l : List ℕ) (d e : Data) (ms : Members) → has_float d ≡ false → has_float e ≡ false
+    → members_have_float ms ≡ false → members_have_float (put k d ms) ≡ false
     → members_have_float (match_ordering o (member k d (member l e ms)) (member l d ms) (member l e (put k d ms))) ≡ false
 placed ordering.Less k l d e ms hd he hms hput = either (has_float d) (has_float e || members_have_float ms) hd (either (has_float e) (members_have_float ms) he hms)
 placed ordering.Equal k l d e ms hd he hms hput = either (has_float d) (members_have_float ms) hd hms
@@ -109,15 +113,19 @@ NoFloat s = Free (written s)
 abbrev FieldNoFloat : Field → Type 0
 FieldNoFloat f = Free (written_field f)
 
-branches_no_float : (es : List (Proved NoFloat)) (begun : List (List ℕ)) → items_have_float (items_of (write_each (map written (map (λ e. e.0) es)) begun).0) ≡ false
+branches_no_float : (es : List (Proved NoFloat)) (begun : List (List ℕ))
+    → items_have_float (items_of (write_each (map written (map (λ e. e.0) es)) begun).0) ≡ false
 branches_no_float [] begun = refl
 branches_no_float (e ∷ es) begun = either (has_float (written e.0 begun).0) (items_have_float (items_of (write_each (map written (map (λ e. e.0) es)) (written e.0 begun).1).0)) (e.1 begun) (branches_no_float es (written e.0 begun).1)
 
-fields_no_float : (es : List (ProvedField FieldNoFloat)) (begun : List (List ℕ)) → items_have_float (items_of (write_each (map written_field (map (λ e. e.0) es)) begun).0) ≡ false
+fields_no_float : (es : List (ProvedField FieldNoFloat)) (begun : List (List ℕ))
+    → items_have_float (items_of (write_each (map written_field (map (λ e. e.0) es)) begun).0) ≡ false
 fields_no_float [] begun = refl
 fields_no_float (e ∷ es) begun = either (has_float (written_field e.0 begun).0) (items_have_float (items_of (write_each (map written_field (map (λ e. e.0) es)) (written_field e.0 begun).1).0)) (e.1 begun) (fields_no_float es (written_field e.0 begun).1)
 
-named_by : (b : Bool) (name : List ℕ) (written_out : Data × List (List ℕ)) (begun : List (List ℕ)) → has_float written_out.0 ≡ false → has_float (if b then (let p : Data × List (List ℕ) = (name_data name, begun) in p) else written_out).0 ≡ false
+named_by : (b : Bool) (name : List ℕ) (written_out : Data × List (List ℕ)) (begun : List (List ℕ))
+    → has_float written_out.0 ≡ false → has_float (if b then (let p : Data
+    × List (List ℕ) = (name_data name, begun) in p) else written_out).0 ≡ false
 named_by true name written_out begun h = refl
 named_by false name written_out begun h = h
 
@@ -128,7 +136,8 @@ named_no_float name w h begun = named_by (has_begun name begun) name (w (begun +
 along : (w v : Writing Data) → w ≡ v → Free v → Free w
 along w v e h begun = ap (λ (u : Writing Data). has_float (u begun).0) e ∙ h begun
 
-level : (y : open_schema.Schema-F (Proved NoFloat) (ProvedField FieldNoFloat)) → NoFloat (roll-Schema (map-Schema (Proved NoFloat) (ProvedField FieldNoFloat) Schema Field (λ e. e.0) (λ e. e.0) y))
+level : (y : open_schema.Schema-F (Proved NoFloat) (ProvedField FieldNoFloat))
+    → NoFloat (roll-Schema (map-Schema (Proved NoFloat) (ProvedField FieldNoFloat) Schema Field (λ e. e.0) (λ e. e.0) y))
 level open_schema.Null = along (written (roll-Schema open_schema.Null)) _ (written_roll open_schema.Null) (λ begun. refl)
 level open_schema.Boolean = along (written (roll-Schema open_schema.Boolean)) _ (written_roll open_schema.Boolean) (λ begun. refl)
 level (open_schema.Int logical) = along (written (roll-Schema (open_schema.Int logical))) _ (written_roll (open_schema.Int logical)) (λ begun. logical_no_float logical (type_key (codes "int")) (type_no_float (codes "int")))
@@ -155,7 +164,8 @@ level (open_schema.Fixed name size logical) =
     along (written (roll-Schema (open_schema.Fixed name size logical))) _ (written_roll (open_schema.Fixed name size logical))
     (named_no_float name (fixed_written name size logical) (λ begun. logical_no_float logical _ (put_no_float (codes "size") (number (unsigned size)) (named_keys (codes "fixed") name) refl (keys_no_float (codes "fixed") name))))
 
-field : (y : open_schema.Field-F (Proved NoFloat) (ProvedField FieldNoFloat)) → FieldNoFloat (roll-Field (map-Field (Proved NoFloat) (ProvedField FieldNoFloat) Schema Field (λ e. e.0) (λ e. e.0) y))
+field : (y : open_schema.Field-F (Proved NoFloat) (ProvedField FieldNoFloat))
+    → FieldNoFloat (roll-Field (map-Field (Proved NoFloat) (ProvedField FieldNoFloat) Schema Field (λ e. e.0) (λ e. e.0) y))
 field y =
     let f : open_schema.Field-F Schema Field = map-Field (Proved NoFloat) (ProvedField FieldNoFloat) Schema Field (λ e. e.0) (λ e. e.0) y in
     along (written_field (roll-Field f)) _ (written_field_roll f)
@@ -167,12 +177,16 @@ no_float s begun = by_levels NoFloat FieldNoFloat level field s begun
 -- ---- the text
 
 -- what was written as JSON has the text of the schema
-pub is_text : (s : Schema) (d : Data) (begun names : List (List ℕ)) (text : List ℕ) → begun ≡ [] → (let p : Data × List (List ℕ) = (d, names) in p ≡ written s begun) → (has_float d ≡ false → text ≡ compact_text d) → text ≡ schema_text s
+pub is_text : (s : Schema) (d : Data) (begun names : List (List ℕ)) (text : List ℕ) → begun ≡ []
+    → (let p : Data × List (List ℕ) = (d, names) in p ≡ written s begun) → (has_float d ≡ false → text ≡ compact_text d)
+    → text ≡ schema_text s
 is_text s d begun names text none is h =
     let same : d ≡ data_of s = ap (λ (p : Data × List (List ℕ)). p.0) is ∙ ap (λ (b : List (List ℕ)). (written s b).0) none in
     h (ap has_float same ∙ no_float s []) ∙ ap compact_text same
 
-pub reads_text : (s : Schema) (d : Data) (begun names : List (List ℕ)) (text : List ℕ) → begun ≡ [] → (let p : Data × List (List ℕ) = (d, names) in p ≡ written s begun) → IsUtf8 text → (depth d ≤ max_depth → read text ≡ Some d) → depth (data_of s) ≤ max_depth → json_of text ≡ Some (data_of s)
+pub reads_text : (s : Schema) (d : Data) (begun names : List (List ℕ)) (text : List ℕ) → begun ≡ []
+    → (let p : Data × List (List ℕ) = (d, names) in p ≡ written s begun) → IsUtf8 text
+    → (depth d ≤ max_depth → read text ≡ Some d) → depth (data_of s) ≤ max_depth → json_of text ≡ Some (data_of s)
 reads_text s d begun names text none is utf8 h shallow =
     let same : d ≡ data_of s = ap (λ (p : Data × List (List ℕ)). p.0) is ∙ ap (λ (b : List (List ℕ)). (written s b).0) none in
     ap (λ (b : Bool). if b then read text else None) (is_utf8-from_IsUtf8 text utf8) ∙ h (subst (λ (e : Data). depth e ≤ max_depth) (sym same) shallow) ∙ ap (λ (e : Data). Some e) same

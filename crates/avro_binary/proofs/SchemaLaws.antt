@@ -10,6 +10,7 @@ use Rattle.std.proofs.lemmas.Str.{IsUtf8-from_is_utf8, utf8_lossy-IsUtf8, utf8_l
 use Rattle.serde_json.specs.Data.{Data, unsigned, number, string, array, object, Items, Members, no_members, put}
 use Rattle.serde_json.specs.Find.{get, as_array, as_i64, of_integer}
 use Rattle.serde_json.specs.View.{items_of}
+use Rattle.plain_types.specs.Steps.{◌>>=◌}
 use Rattle.avro_binary.specs.declared.schema_fault.SchemaFault.{SchemaFault}
 use Rattle.avro_binary.specs.declared.schema_fault.SchemaFault.TheVariants.{Shape, Depth}
 use Rattle.avro_binary.specs.declared.names.Names.{Names}
@@ -24,7 +25,7 @@ use Rattle.avro_binary.specs.declared.schema.Logical.TheVariants.{Plain, Date, T
 use Rattle.avro_binary.specs.Word.{word_of}
 use Rattle.avro_binary.specs.Naming.{space_of, last_dot, full_name, has_begun}
 use Rattle.avro_binary.specs.Placed.{Placing, place_each, place_inner, place_level, place_field, placed, placed_field}
-use Rattle.avro_binary.specs.SchemaText.{◌>>=◌, needed, node, text_at, narrow, id_at, decimal, logical_named, logical_of, is_map, type_name, defined_name, used, begin, finish, Nodes, Reader, each, symbol, field, record_node, enum_node, fixed_node, array_node, map_node, union_node, typed, single, schema_at, schema_of}
+use Rattle.avro_binary.specs.SchemaText.{needed, node, text_at, narrow, id_at, decimal, logical_named, logical_of, is_map, type_name, defined_name, used, begin, finish, Nodes, Reader, each, symbol, field, record_node, enum_node, fixed_node, array_node, map_node, union_node, typed, single, schema_at, schema_of}
 use Rattle.avro_binary.specs.SchemaData.{Writing, name_data, type_key, with_id, with_logical, with_map, named_keys, primitive, symbols, write_each, named, record_written, enum_written, fixed_written, written_level, field_level, written, written_field, data_of}
 use Rattle.avro_binary.specs.SchemaOnce.{is_logical, is_id, Begins, when, no_name, one_name, each_once, once_level, once_field_level, once, once_field, has_text}
 use Rattle.avro_binary.proofs.Loops.{ne-eqb}
@@ -75,11 +76,13 @@ bare_decimal : (b : Bool) (name : List ℕ) → bytes_eq name (codes "decimal") 
 bare_decimal true name e = ap (λ (t : List ℕ). Other t) (sym ((bytes_eq-Decides name (codes "decimal")).0 e))
 bare_decimal false name e = refl
 
-other_is : (name : List ℕ) (d : Data) → get (codes "precision") d ≡ None → bytes_eq name (codes "date") ≡ false → bytes_eq name (codes "timestamp-micros") ≡ false → logical_named name d ≡ Other name
+other_is : (name : List ℕ) (d : Data) → get (codes "precision") d ≡ None → bytes_eq name (codes "date") ≡ false
+    → bytes_eq name (codes "timestamp-micros") ≡ false → logical_named name d ≡ Other name
 unfolding logical_named decimal
 other_is name d none date micros = rw (date, micros, none) (bare_decimal (bytes_eq name (codes "decimal")) name refl)
 
-with_text : (word name : List ℕ) → logical_of (object (put (codes "logicalType") (string name) (type_key word))) ≡ logical_named name (object (put (codes "logicalType") (string name) (type_key word)))
+with_text : (word name : List ℕ) → logical_of (object (put (codes "logicalType") (string name)
+    (type_key word))) ≡ logical_named name (object (put (codes "logicalType") (string name) (type_key word)))
 unfolding logical_of
 with_text word name = refl
 
@@ -167,18 +170,21 @@ when_true false g b after e = none_some after e
 pub placed_roll : (x : open_schema.Schema-F Schema Field) → placed (roll-Schema x) ≡ place_level (map-Schema Schema Field Placing Placing placed placed_field x)
 placed_roll x = fold-roll-Schema Placing Placing place_level place_field x
 
-pub placed_field_roll : (x : open_schema.Field-F Schema Field) → placed_field (roll-Field x) ≡ place_field (map-Field Schema Field Placing Placing placed placed_field x)
+pub placed_field_roll : (x : open_schema.Field-F Schema Field)
+    → placed_field (roll-Field x) ≡ place_field (map-Field Schema Field Placing Placing placed placed_field x)
 placed_field_roll x = fold-roll-Field Placing Placing place_level place_field x
 
 pub once_roll : (x : open_schema.Schema-F Schema Field) → once (roll-Schema x) ≡ once_level (map-Schema Schema Field Begins Begins once once_field x)
 once_roll x = fold-roll-Schema Begins Begins once_level once_field_level x
 
-pub once_field_roll : (x : open_schema.Field-F Schema Field) → once_field (roll-Field x) ≡ once_field_level (map-Field Schema Field Begins Begins once once_field x)
+pub once_field_roll : (x : open_schema.Field-F Schema Field)
+    → once_field (roll-Field x) ≡ once_field_level (map-Field Schema Field Begins Begins once once_field x)
 once_field_roll x = fold-roll-Field Begins Begins once_level once_field_level x
 
 -- ---- one after the other
 
-each_reads : {X : Type 0} (step : Data → Names → Result (X × Names) SchemaFault) (write : X → Writing Data) (begins : X → Begins) (place : X → Placing) (depth : ℕ) (Q : X → Type 0)
+each_reads : {X : Type 0} (step : Data → Names → Result (X × Names) SchemaFault) (write : X → Writing Data) (begins : X → Begins)
+    (place : X → Placing) (depth : ℕ) (Q : X → Type 0)
     → ((x : X) → Q x → ReadsAs step (write x) x (begins x) (place x depth))
     → (es : List ((x : X) × Q x)) (f : List Named) (b after : List (List ℕ)) (l left : ℕ) → each_once (map begins (map (λ e. e.0) es)) b ≡ Some after → place_each (map place (map (λ e. e.0) es)) depth l ≡ Some left
     → (finished : List Named) × ((write_each (map write (map (λ e. e.0) es)) b).1 ≡ after) × (each step (items_of (write_each (map write (map (λ e. e.0) es)) b).0) (names_of f b l) ≡ Ok (map (λ e. e.0) es, names_of finished after left))
@@ -199,7 +205,8 @@ each_reads {X = X} step write begins place depth Q law (e ∷ es) f b after l le
 -- ---- a node
 
 -- how a node of so many nodes that are left is placed
-place_of : (x : open_schema.Schema-F Schema Field) (depth l left : ℕ) → placed (roll-Schema x) depth l ≡ Some left → (d : ℕ) × (m : ℕ) × (depth ≡ suc d) × (l ≡ suc m) × (placed (roll-Schema x) (suc d) (suc m) ≡ Some left)
+place_of : (x : open_schema.Schema-F Schema Field) (depth l left : ℕ) → placed (roll-Schema x) depth l ≡ Some left → (d : ℕ)
+    × (m : ℕ) × (depth ≡ suc d) × (l ≡ suc m) × (placed (roll-Schema x) (suc d) (suc m) ≡ Some left)
 place_of x zero l left e = none_some left (sym (ap (λ (p : Placing). p zero l) (placed_roll x)) ∙ e)
 place_of x (suc d) zero left e = none_some left (sym (ap (λ (p : Placing). p (suc d) zero) (placed_roll x)) ∙ e)
 place_of x (suc d) (suc m) left e = (d, m, refl, refl, e)
@@ -221,7 +228,9 @@ AtLevel x = (depth : ℕ) (space : List ℕ) (f : List Named) (b after : List (L
 zero_suc : (n : ℕ) → suc n ≡ 0 → ⊥
 zero_suc n e = omega arith
 
-pub one_deeper : (depth : ℕ) (space : List ℕ) (d : Data) (f : List Named) (b : List (List ℕ)) (l : ℕ) → schema_at (suc depth) space d (names_of f b (suc l)) ≡ node (schema_at depth) (suc depth) space (as_array d) d (names_of f b (suc l))
+pub one_deeper : (depth : ℕ) (space : List ℕ) (d : Data) (f : List Named) (b : List (List ℕ)) (l : ℕ)
+    → schema_at (suc depth) space d (names_of f b (suc l)) ≡ node (schema_at depth)
+    (suc depth) space (as_array d) d (names_of f b (suc l))
 unfolding schema_at
 one_deeper depth space d f b l =
     let some : eqb (suc l) 0 ≡ false = ne-eqb (suc l) 0 (λ e. zero_suc l e) in
@@ -249,31 +258,36 @@ used_is f b l = let less : suc l - 1 ≡ l = omega arith in ap (λ (n : ℕ). na
 leaf : (s t : Schema) (f : List Named) (b : List (List ℕ)) (l : ℕ) → s ≡ t → got s (used (names_of f b (suc l))) ≡ Ok (t, names_of f b l)
 leaf s t f b l same = ap (λ (n : Names). got s n) (used_is f b l) ∙ ap (λ (x : Schema). got x (names_of f b l)) same
 
-same_names : (s : Schema) (f : List Named) (b after : List (List ℕ)) (l left : ℕ) → b ≡ after → l ≡ left → got s (names_of f b l) ≡ got s (names_of f after left)
+same_names : (s : Schema) (f : List Named) (b after : List (List ℕ)) (l left : ℕ) → b ≡ after → l ≡ left
+    → got s (names_of f b l) ≡ got s (names_of f after left)
 same_names s f b after l left begun placing = ap (λ (n : List (List ℕ)). got s (names_of f n l)) begun ∙ ap (λ (n : ℕ). got s (names_of f after n)) placing
 
-pub null_read : (depth : ℕ) (space : List ℕ) (f : List Named) (b : List (List ℕ)) (l : ℕ) → NodeReads depth space (string (codes "null")) (names_of f b (suc l)) (roll-Schema open_schema.Null) (names_of f b l)
+pub null_read : (depth : ℕ) (space : List ℕ) (f : List Named) (b : List (List ℕ)) (l : ℕ)
+    → NodeReads depth space (string (codes "null")) (names_of f b (suc l)) (roll-Schema open_schema.Null) (names_of f b l)
 unfolding single typed type_name
 null_read depth space f b l = leaf schema.Null (roll-Schema open_schema.Null) f b l (sym schema.rolls-Null)
 
 null_level : AtLevel open_schema.Null
 null_level depth space f b after l left begun placing = (f, same_some b after begun, null_read depth space f b l ∙ same_names (roll-Schema open_schema.Null) f b after l left (same_some b after begun) (same_some l left placing))
 
-pub boolean_read : (depth : ℕ) (space : List ℕ) (f : List Named) (b : List (List ℕ)) (l : ℕ) → NodeReads depth space (string (codes "boolean")) (names_of f b (suc l)) (roll-Schema open_schema.Boolean) (names_of f b l)
+pub boolean_read : (depth : ℕ) (space : List ℕ) (f : List Named) (b : List (List ℕ)) (l : ℕ)
+    → NodeReads depth space (string (codes "boolean")) (names_of f b (suc l)) (roll-Schema open_schema.Boolean) (names_of f b l)
 unfolding single typed type_name
 boolean_read depth space f b l = leaf schema.Boolean (roll-Schema open_schema.Boolean) f b l (sym schema.rolls-Boolean)
 
 boolean_level : AtLevel open_schema.Boolean
 boolean_level depth space f b after l left begun placing = (f, same_some b after begun, boolean_read depth space f b l ∙ same_names (roll-Schema open_schema.Boolean) f b after l left (same_some b after begun) (same_some l left placing))
 
-pub text_read : (depth : ℕ) (space : List ℕ) (f : List Named) (b : List (List ℕ)) (l : ℕ) → NodeReads depth space (string (codes "string")) (names_of f b (suc l)) (roll-Schema open_schema.Text) (names_of f b l)
+pub text_read : (depth : ℕ) (space : List ℕ) (f : List Named) (b : List (List ℕ)) (l : ℕ)
+    → NodeReads depth space (string (codes "string")) (names_of f b (suc l)) (roll-Schema open_schema.Text) (names_of f b l)
 unfolding single typed type_name
 text_read depth space f b l = leaf schema.Text (roll-Schema open_schema.Text) f b l (sym schema.rolls-Text)
 
 text_level : AtLevel open_schema.Text
 text_level depth space f b after l left begun placing = (f, same_some b after begun, text_read depth space f b l ∙ same_names (roll-Schema open_schema.Text) f b after l left (same_some b after begun) (same_some l left placing))
 
-pub single_of : (reader : Reader) (depth : ℕ) (space : List ℕ) (d : Data) (names : Names) (name : List ℕ) → type_name d ≡ Some name → single reader depth space d names ≡ typed reader depth space (word_of name) name d names
+pub single_of : (reader : Reader) (depth : ℕ) (space : List ℕ) (d : Data) (names : Names) (name : List ℕ)
+    → type_name d ≡ Some name → single reader depth space d names ≡ typed reader depth space (word_of name) name d names
 unfolding single
 single_of reader depth space d names name e = ap (λ (o : Option (List ℕ)). needed o >>= λ n. typed reader depth space (word_of n) n d names) e
 
@@ -319,7 +333,8 @@ bytes_level logical depth space f b after l left begun placing =
 
 -- ---- named types
 
-pub one_name_is : (b : Bool) (name : List ℕ) (begun after : List (List ℕ)) → has_begun name begun ≡ b → one_name name begun ≡ Some after → (has_begun name begun ≡ false) × (begun ++ name ∷ [] ≡ after)
+pub one_name_is : (b : Bool) (name : List ℕ) (begun after : List (List ℕ)) → has_begun name begun ≡ b
+    → one_name name begun ≡ Some after → (has_begun name begun ≡ false) × (begun ++ name ∷ [] ≡ after)
 one_name_is true name begun after e h = none_some after (sym (ap (λ (c : Bool). if c then None else Some (begun ++ name ∷ [])) e) ∙ h)
 one_name_is false name begun after e h = (e, same_some (begun ++ name ∷ []) after (sym (ap (λ (c : Bool). if c then None else Some (begun ++ name ∷ [])) e) ∙ h))
 
@@ -328,7 +343,8 @@ pub named_out : (name : List ℕ) (w : Writing Data) (b : List (List ℕ)) → h
 unfolding named
 named_out name w b e = ap (λ (c : Bool). if c then (let p : Data × List (List ℕ) = (name_data name, b) in p) else w (b ++ name ∷ [])) e
 
-begin_of : (name : List ℕ) (f : List Named) (b : List (List ℕ)) (l : ℕ) → has_begun name b ≡ false → begin name (used (names_of f b (suc l))) ≡ Ok (names_of f (b ++ name ∷ []) l)
+begin_of : (name : List ℕ) (f : List Named) (b : List (List ℕ)) (l : ℕ) → has_begun name b ≡ false
+    → begin name (used (names_of f b (suc l))) ≡ Ok (names_of f (b ++ name ∷ []) l)
 unfolding begin
 begin_of name f b l e =
     let less : suc l - 1 ≡ l = omega arith in
@@ -342,11 +358,14 @@ keys word space name = put (codes "namespace") (string space) (put (codes "name"
 recorded : Reader → Items → List ℕ → Names → Nodes
 recorded reader fields full names = begin full names >>= λ begun. each (field reader (space_of full)) fields begun >>= λ inner. Ok (finish full (schema.Record full inner.0) inner.1)
 
-record_is : (reader : Reader) (around space name : List ℕ) (fields : Items) (names : Names) → record_node reader around (object (put (codes "fields") (array fields) (keys (codes "record") space name))) names ≡ recorded reader fields (full_name space name) (used names)
+record_is : (reader : Reader) (around space name : List ℕ) (fields : Items) (names : Names)
+    → record_node reader around (object (put (codes "fields") (array fields)
+    (keys (codes "record") space name))) names ≡ recorded reader fields (full_name space name) (used names)
 unfolding record_node defined_name recorded
 record_is reader around space name fields names = refl
 
-record_type : (space name : List ℕ) (fields : Items) → type_name (object (put (codes "fields") (array fields) (keys (codes "record") space name))) ≡ Some (codes "record")
+record_type : (space name : List ℕ) (fields : Items) → type_name (object (put (codes "fields") (array fields)
+    (keys (codes "record") space name))) ≡ Some (codes "record")
 unfolding type_name
 record_type space name fields = refl
 
@@ -357,7 +376,8 @@ record_data name items = object (put (codes "fields") (array items) (named_keys 
 abbrev pub finishing : List ℕ → Schema → List Named → List Named
 finishing name s f = f ++ record { name = name; schema = s } ∷ []
 
-pub record_read : (name : List ℕ) (fields : List Field) (items : Items) (depth : ℕ) (space : List ℕ) (f finished : List Named) (b after : List (List ℕ)) (l left : ℕ) → is_utf8 name ≡ true → has_begun name b ≡ false
+pub record_read : (name : List ℕ) (fields : List Field) (items : Items) (depth : ℕ) (space : List ℕ) (f finished : List Named)
+    (b after : List (List ℕ)) (l left : ℕ) → is_utf8 name ≡ true → has_begun name b ≡ false
     → each (field (schema_at depth) (space_of name)) items (names_of f (b ++ name ∷ []) l) ≡ Ok (fields, names_of finished after left)
     → NodeReads depth space (record_data name items) (names_of f b (suc l)) (roll-Schema (open_schema.Record name fields)) (names_of (finishing name (schema.Record name fields) finished) after left)
 unfolding typed recorded
@@ -403,18 +423,22 @@ symbols_read (n ∷ ns) names h =
 listed : Items → List ℕ → Names → Nodes
 listed items full names = begin full names >>= λ begun. each symbol items begun >>= λ inner. Ok (finish full (schema.Enum full inner.0) inner.1)
 
-enum_is : (around space name : List ℕ) (items : Items) (names : Names) → enum_node around (object (put (codes "symbols") (array items) (keys (codes "enum") space name))) names ≡ listed items (full_name space name) (used names)
+enum_is : (around space name : List ℕ) (items : Items) (names : Names)
+    → enum_node around (object (put (codes "symbols") (array items)
+    (keys (codes "enum") space name))) names ≡ listed items (full_name space name) (used names)
 unfolding enum_node defined_name listed
 enum_is around space name items names = refl
 
-enum_type : (space name : List ℕ) (items : Items) → type_name (object (put (codes "symbols") (array items) (keys (codes "enum") space name))) ≡ Some (codes "enum")
+enum_type : (space name : List ℕ) (items : Items) → type_name (object (put (codes "symbols") (array items)
+    (keys (codes "enum") space name))) ≡ Some (codes "enum")
 unfolding type_name
 enum_type space name items = refl
 
 abbrev pub enum_data : List ℕ → List (List ℕ) → Data
 enum_data name ns = object (put (codes "symbols") (symbols ns) (named_keys (codes "enum") name))
 
-pub enum_read : (name : List ℕ) (ns : List (List ℕ)) (depth : ℕ) (space : List ℕ) (f : List Named) (b : List (List ℕ)) (l : ℕ) → is_utf8 name ≡ true → list_all is_utf8 ns ≡ true → has_begun name b ≡ false
+pub enum_read : (name : List ℕ) (ns : List (List ℕ)) (depth : ℕ) (space : List ℕ) (f : List Named) (b : List (List ℕ)) (l : ℕ)
+    → is_utf8 name ≡ true → list_all is_utf8 ns ≡ true → has_begun name b ≡ false
     → NodeReads depth space (enum_data name ns) (names_of f b (suc l)) (roll-Schema (open_schema.Enum name ns)) (names_of (finishing name (schema.Enum name ns) f) (b ++ name ∷ []) l)
 unfolding typed listed
 enum_read name ns depth space f b l text texts new =
@@ -448,7 +472,9 @@ enum_level name ns depth space f b after l left begun placing =
 fixed_done : ℕ → Logical → List ℕ → Names → Nodes
 fixed_done size logical full names = begin full names >>= λ begun. Ok (finish full (schema.Fixed full size logical) begun)
 
-fixed_is : (around space name : List ℕ) (size : ℕ) (logical : Logical) (names : Names) → fixed_node around (fixed_data space name size logical) names ≡ fixed_done size (logical_of (fixed_data space name size logical)) (full_name space name) (used names)
+fixed_is : (around space name : List ℕ) (size : ℕ) (logical : Logical) (names : Names)
+    → fixed_node around (fixed_data space name size logical) names ≡ fixed_done size (logical_of (fixed_data space name size logical))
+    (full_name space name) (used names)
 unfolding fixed_node defined_name fixed_done fixed_data
 fixed_is around space name size Plain names = refl
 fixed_is around space name size Date names = refl
@@ -467,7 +493,8 @@ fixed_type space name size (Other other) = refl
 abbrev pub fixed_text : List ℕ → ℕ → Logical → Data
 fixed_text name size logical = object (with_logical logical (put (codes "size") (number (unsigned size)) (named_keys (codes "fixed") name)))
 
-pub fixed_read : (name : List ℕ) (size : ℕ) (logical : Logical) (depth : ℕ) (space : List ℕ) (f : List Named) (b : List (List ℕ)) (l : ℕ) → is_utf8 name ≡ true → is_logical logical ≡ true → has_begun name b ≡ false
+pub fixed_read : (name : List ℕ) (size : ℕ) (logical : Logical) (depth : ℕ) (space : List ℕ) (f : List Named) (b : List (List ℕ))
+    (l : ℕ) → is_utf8 name ≡ true → is_logical logical ≡ true → has_begun name b ≡ false
     → NodeReads depth space (fixed_text name size logical) (names_of f b (suc l)) (roll-Schema (open_schema.Fixed name size logical)) (names_of (finishing name (schema.Fixed name size logical) f) (b ++ name ∷ []) l)
 unfolding typed fixed_done fixed_data
 fixed_read name size logical depth space f b l text type new =
@@ -527,14 +554,17 @@ array_map inner (Some z) true = refl
 arrayed : Reader → List ℕ → Data → Option ℤ → Bool → Names → Nodes
 arrayed reader space inner element map names = reader space inner names >>= λ x. Ok (schema.Array x.0 element map, x.1)
 
-array_is : (reader : Reader) (space : List ℕ) (inner : Data) (element : Option ℤ) (map : Bool) (names : Names) → array_node reader space (array_data inner element map) names ≡ arrayed reader space inner (id_at (codes "element-id") (array_data inner element map)) (is_map (array_data inner element map)) (used names)
+array_is : (reader : Reader) (space : List ℕ) (inner : Data) (element : Option ℤ) (map : Bool) (names : Names)
+    → array_node reader space (array_data inner element map) names ≡ arrayed reader space inner (id_at (codes "element-id")
+    (array_data inner element map)) (is_map (array_data inner element map)) (used names)
 unfolding array_node array_data arrayed
 array_is reader space inner None false names = refl
 array_is reader space inner None true names = refl
 array_is reader space inner (Some z) false names = refl
 array_is reader space inner (Some z) true names = refl
 
-pub array_read : (s : Schema) (element : Option ℤ) (map : Bool) (i : Data) (depth : ℕ) (space : List ℕ) (f : List Named) (b : List (List ℕ)) (l : ℕ) (after : Names) → is_id element ≡ true → schema_at depth space i (names_of f b l) ≡ Ok (s, after)
+pub array_read : (s : Schema) (element : Option ℤ) (map : Bool) (i : Data) (depth : ℕ) (space : List ℕ) (f : List Named)
+    (b : List (List ℕ)) (l : ℕ) (after : Names) → is_id element ≡ true → schema_at depth space i (names_of f b l) ≡ Ok (s, after)
     → NodeReads depth space (array_data i element map) (names_of f b (suc l)) (roll-Schema (open_schema.Array s element map)) after
 unfolding typed arrayed array_data
 array_read s element map i depth space f b l after id inner =
@@ -582,14 +612,17 @@ map_value inner (Some z) (Some w) h = narrow_is w h
 mapped : Reader → List ℕ → Data → Option ℤ → Option ℤ → Names → Nodes
 mapped reader space inner key value names = reader space inner names >>= λ x. Ok (schema.Map x.0 key value, x.1)
 
-map_is : (reader : Reader) (space : List ℕ) (inner : Data) (key value : Option ℤ) (names : Names) → map_node reader space (map_data inner key value) names ≡ mapped reader space inner (id_at (codes "key-id") (map_data inner key value)) (id_at (codes "value-id") (map_data inner key value)) (used names)
+map_is : (reader : Reader) (space : List ℕ) (inner : Data) (key value : Option ℤ) (names : Names)
+    → map_node reader space (map_data inner key value) names ≡ mapped reader space inner (id_at (codes "key-id")
+    (map_data inner key value)) (id_at (codes "value-id") (map_data inner key value)) (used names)
 unfolding map_node map_data mapped
 map_is reader space inner None None names = refl
 map_is reader space inner None (Some w) names = refl
 map_is reader space inner (Some z) None names = refl
 map_is reader space inner (Some z) (Some w) names = refl
 
-pub map_read : (s : Schema) (key value : Option ℤ) (i : Data) (depth : ℕ) (space : List ℕ) (f : List Named) (b : List (List ℕ)) (l : ℕ) (after : Names) → is_id key ≡ true → is_id value ≡ true → schema_at depth space i (names_of f b l) ≡ Ok (s, after)
+pub map_read : (s : Schema) (key value : Option ℤ) (i : Data) (depth : ℕ) (space : List ℕ) (f : List Named) (b : List (List ℕ))
+    (l : ℕ) (after : Names) → is_id key ≡ true → is_id value ≡ true → schema_at depth space i (names_of f b l) ≡ Ok (s, after)
     → NodeReads depth space (map_data i key value) (names_of f b (suc l)) (roll-Schema (open_schema.Map s key value)) after
 unfolding typed mapped map_data
 map_read s key value i depth space f b l after key_id value_id inner =
@@ -611,11 +644,13 @@ map_level e key value depth space f b after l left begun placing =
     let inner = e.1 depth space f b after l left o.1 placing in
     (inner.0, inner.1, map_read e.0 key value (written e.0 b).0 depth space f b l (names_of inner.0 after left) ids.0 ids.1 inner.2)
 
-union_is : (reader : Reader) (space : List ℕ) (items : Items) (names : Names) → union_node reader space items names ≡ (each (reader space) items (used names) >>= λ inner. Ok (schema.Union inner.0, inner.1))
+union_is : (reader : Reader) (space : List ℕ) (items : Items) (names : Names)
+    → union_node reader space items names ≡ (each (reader space) items (used names) >>= λ inner. Ok (schema.Union inner.0, inner.1))
 unfolding union_node
 union_is reader space items names = refl
 
-pub union_read : (branches : List Schema) (items : Items) (depth : ℕ) (space : List ℕ) (f : List Named) (b : List (List ℕ)) (l : ℕ) (after : Names) → each (schema_at depth space) items (names_of f b l) ≡ Ok (branches, after)
+pub union_read : (branches : List Schema) (items : Items) (depth : ℕ) (space : List ℕ) (f : List Named) (b : List (List ℕ))
+    (l : ℕ) (after : Names) → each (schema_at depth space) items (names_of f b l) ≡ Ok (branches, after)
     → NodeReads depth space (array items) (names_of f b (suc l)) (roll-Schema (open_schema.Union branches)) after
 union_read branches items depth space f b l after inner =
     union_is (schema_at depth) space items (names_of f b (suc l))
@@ -642,15 +677,19 @@ field_id name (Some z) inner h = narrow_is z h
 fielded : Reader → List ℕ → List ℕ → Option ℤ → Data → Names → Result (Field × Names) SchemaFault
 fielded reader space name id inner names = reader space inner names >>= λ x. Ok (record { name = name; id = id; schema = x.0 }, x.1)
 
-field_is : (reader : Reader) (space name : List ℕ) (id : Option ℤ) (inner : Data) (names : Names) → field reader space (field_data name id inner) names ≡ fielded reader space name (id_at (codes "field-id") (field_data name id inner)) inner names
+field_is : (reader : Reader) (space name : List ℕ) (id : Option ℤ) (inner : Data) (names : Names)
+    → field reader space (field_data name id inner) names ≡ fielded reader space name (id_at (codes "field-id")
+    (field_data name id inner)) inner names
 unfolding field field_data fielded
 field_is reader space name None inner names = refl
 field_is reader space name (Some z) inner names = refl
 
-field_made : (name : List ℕ) (id : Option ℤ) (s : Schema) → (let x : Field = record { name = name; id = id; schema = s } in x) ≡ roll-Field (record { name = name; id = id; schema = s })
+field_made : (name : List ℕ) (id : Option ℤ) (s : Schema)
+    → (let x : Field = record { name = name; id = id; schema = s } in x) ≡ roll-Field (record { name = name; id = id; schema = s })
 field_made name id s = refl
 
-pub field_read : (name : List ℕ) (id : Option ℤ) (s : Schema) (i : Data) (depth : ℕ) (space : List ℕ) (before after : Names) → is_utf8 name ≡ true → is_id id ≡ true → schema_at depth space i before ≡ Ok (s, after)
+pub field_read : (name : List ℕ) (id : Option ℤ) (s : Schema) (i : Data) (depth : ℕ) (space : List ℕ) (before after : Names)
+    → is_utf8 name ≡ true → is_id id ≡ true → schema_at depth space i before ≡ Ok (s, after)
     → field (schema_at depth) space (field_data (utf8_lossy name) id i) before ≡ Ok (roll-Field (record { name = name; id = id; schema = s }), after)
 unfolding fielded field_data
 field_read name id s i depth space before after text has_id inner =
@@ -674,7 +713,8 @@ field_reads name id e depth space f b after l left begun placing =
       ap (λ (w : Writing Data). field (schema_at depth) space (w b).0 names) is ∙ field_read name id e.0 (written e.0 b).0 depth space names (names_of inner.0 after left) u.0 u.1 inner.2,
     )
 
-pub levels : (y : open_schema.Schema-F (Proved Reads) (ProvedField ReadsField)) → Reads (roll-Schema (map-Schema (Proved Reads) (ProvedField ReadsField) Schema Field (λ e. e.0) (λ e. e.0) y))
+pub levels : (y : open_schema.Schema-F (Proved Reads) (ProvedField ReadsField))
+    → Reads (roll-Schema (map-Schema (Proved Reads) (ProvedField ReadsField) Schema Field (λ e. e.0) (λ e. e.0) y))
 levels open_schema.Null = at_level open_schema.Null null_level
 levels open_schema.Boolean = at_level open_schema.Boolean boolean_level
 levels (open_schema.Int logical) = at_level (open_schema.Int logical) (int_level logical)
@@ -688,7 +728,8 @@ levels (open_schema.Map e key value) = at_level (open_schema.Map e.0 key value) 
 levels (open_schema.Union es) = at_level (open_schema.Union (map (λ (e : Proved Reads). e.0) es)) (union_level es)
 levels (open_schema.Fixed name size logical) = at_level (open_schema.Fixed name size logical) (fixed_level name size logical)
 
-fields : (y : open_schema.Field-F (Proved Reads) (ProvedField ReadsField)) → ReadsField (roll-Field (map-Field (Proved Reads) (ProvedField ReadsField) Schema Field (λ e. e.0) (λ e. e.0) y))
+fields : (y : open_schema.Field-F (Proved Reads) (ProvedField ReadsField))
+    → ReadsField (roll-Field (map-Field (Proved Reads) (ProvedField ReadsField) Schema Field (λ e. e.0) (λ e. e.0) y))
 fields y = field_reads y.name y.id y.schema
 
 pub schema_reads : (s : Schema) → Reads s

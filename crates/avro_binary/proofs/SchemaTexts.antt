@@ -41,7 +41,8 @@ pub front_at : (front : List ℕ) (b : ℕ) (rest : List ℕ) → (length front 
 front_at [] b rest = (omega arith, refl)
 front_at (x ∷ front) b rest = let h = front_at front b rest in (omega arith, h.1)
 
-dot_step : (c : Bool) (front : List ℕ) (b : ℕ) (rest : List ℕ) (last : Option ℕ) → eqb b 46 ≡ c → IsDot (front ++ b ∷ rest) last → IsDot (front ++ b ∷ rest) (if c then Some (length front) else last)
+dot_step : (c : Bool) (front : List ℕ) (b : ℕ) (rest : List ℕ) (last : Option ℕ) → eqb b 46 ≡ c → IsDot (front ++ b ∷ rest) last
+    → IsDot (front ++ b ∷ rest) (if c then Some (length front) else last)
 dot_step true front b rest last e h = inr (length front, refl, (front_at front b rest).0, (front_at front b rest).1 ∙ eqb-true b 46 e)
 dot_step false front b rest last e h = h
 
@@ -75,7 +76,8 @@ space_text name h =
 
 -- ---- members
 
-put_step : (o : Ordering) (k l : List ℕ) (d e : Data) (ms : Members) → are_ascii k ≡ true → Good d → GoodMembers (member l e ms) → GoodMembers (put k d ms) → are_ascii l ≡ true
+put_step : (o : Ordering) (k l : List ℕ) (d e : Data) (ms : Members) → are_ascii k ≡ true → Good d → GoodMembers (member l e ms)
+    → GoodMembers (put k d ms) → are_ascii l ≡ true
     → GoodMembers (match_ordering o (member k d (member l e ms)) (member l d ms) (member l e (put k d ms)))
 put_step ordering.Less k l d e ms hk hd h hput hl = (hk, hd, h)
 put_step ordering.Equal k l d e ms hk hd h hput hl = (hl, hd, h.2)
@@ -155,12 +157,14 @@ each_good {X = X} write begins Q law (e ∷ es) b after begun =
     )
 
 -- a law of the level is one of the schema
-good_level : (x : open_schema.Schema-F Schema Field) (w : Writing Data) (begins : Begins) → written (roll-Schema x) ≡ w → once (roll-Schema x) ≡ begins → GoodWriting w begins → GoodSchema (roll-Schema x)
+good_level : (x : open_schema.Schema-F Schema Field) (w : Writing Data) (begins : Begins) → written (roll-Schema x) ≡ w
+    → once (roll-Schema x) ≡ begins → GoodWriting w begins → GoodSchema (roll-Schema x)
 good_level x w begins is o law b after begun =
     let r = law b after (sym (ap (λ (g : Begins). g b) o) ∙ begun) in
     (ap (λ (v : Writing Data). (v b).1) is ∙ r.0, subst (λ (v : Writing Data). Good (v b).0) (sym is) r.1)
 
-good_named : (name : List ℕ) (w : Writing Data) (b after : List (List ℕ)) → one_name name b ≡ Some after → Good (w after).0 → ((w after).1 ≡ after) → ((named name w b).1 ≡ after) × Good (named name w b).0
+good_named : (name : List ℕ) (w : Writing Data) (b after : List (List ℕ)) → one_name name b ≡ Some after → Good (w after).0
+    → ((w after).1 ≡ after) → ((named name w b).1 ≡ after) × Good (named name w b).0
 good_named name w b after begun good ends =
     let new = one_name_is (has_begun name b) name b after refl begun in
     let out : named name w b ≡ w after = named_out name w b new.0 ∙ ap w new.1 in
@@ -176,16 +180,20 @@ built_primitive word (Other name) = refl
 pub primitive_is_good : (word : List ℕ) (logical : Logical) → IsUtf8 word → is_logical logical ≡ true → Good (primitive word logical)
 primitive_is_good word logical hw h = (built_primitive word logical, logical_good logical (type_key word) h (type_good word hw))
 
-built_record : (items : Data) (name : List ℕ) → rebuilt (put (codes "fields") items (named_keys (codes "record") name)) no_members ≡ put (codes "fields") items (named_keys (codes "record") name)
+built_record : (items : Data) (name : List ℕ)
+    → rebuilt (put (codes "fields") items (named_keys (codes "record") name)) no_members ≡ put (codes "fields") items (named_keys (codes "record") name)
 built_record items name = refl
 
-pub record_is_good : (name : List ℕ) (items : Items) → is_utf8 name ≡ true → GoodItems items → Good (object (put (codes "fields") (array items) (named_keys (codes "record") name)))
+pub record_is_good : (name : List ℕ) (items : Items) → is_utf8 name ≡ true → GoodItems items
+    → Good (object (put (codes "fields") (array items) (named_keys (codes "record") name)))
 record_is_good name items text good = (built_record (array items) name, put_good (codes "fields") (array items) (named_keys (codes "record") name) refl good (keys_good (codes "record") name (is_text (codes "record") refl) text))
 
-built_enum : (items : Data) (name : List ℕ) → rebuilt (put (codes "symbols") items (named_keys (codes "enum") name)) no_members ≡ put (codes "symbols") items (named_keys (codes "enum") name)
+built_enum : (items : Data) (name : List ℕ)
+    → rebuilt (put (codes "symbols") items (named_keys (codes "enum") name)) no_members ≡ put (codes "symbols") items (named_keys (codes "enum") name)
 built_enum items name = refl
 
-pub enum_is_good : (name : List ℕ) (ns : List (List ℕ)) → is_utf8 name ≡ true → list_all is_utf8 ns ≡ true → Good (object (put (codes "symbols") (symbols ns) (named_keys (codes "enum") name)))
+pub enum_is_good : (name : List ℕ) (ns : List (List ℕ)) → is_utf8 name ≡ true → list_all is_utf8 ns ≡ true
+    → Good (object (put (codes "symbols") (symbols ns) (named_keys (codes "enum") name)))
 enum_is_good name ns text texts = (built_enum (symbols ns) name, put_good (codes "symbols") (symbols ns) (named_keys (codes "enum") name) refl (symbols_good ns texts) (keys_good (codes "enum") name (is_text (codes "enum") refl) text))
 
 abbrev fixed_keys : List ℕ → ℕ → Logical → Members
@@ -198,7 +206,8 @@ built_fixed name size (TimestampMicros utc) = refl
 built_fixed name size (Decimal precision scale) = refl
 built_fixed name size (Other other) = refl
 
-pub fixed_is_good : (name : List ℕ) (size : ℕ) (logical : Logical) → is_utf8 name ≡ true → is_logical logical ≡ true → size < 2 ^ 64 → Good (object (fixed_keys name size logical))
+pub fixed_is_good : (name : List ℕ) (size : ℕ) (logical : Logical) → is_utf8 name ≡ true → is_logical logical ≡ true
+    → size < 2 ^ 64 → Good (object (fixed_keys name size logical))
 fixed_is_good name size logical text type small =
     (built_fixed name size logical, logical_good logical _ type (put_good (codes "size") (number (unsigned size)) (named_keys (codes "fixed") name) refl small (keys_good (codes "fixed") name (is_text (codes "fixed") refl) text)))
 
@@ -235,11 +244,14 @@ built_field : (name : List ℕ) (id : Option ℤ) (inner : Data) → rebuilt (fi
 built_field name None inner = refl
 built_field name (Some z) inner = refl
 
-pub field_is_good : (name : List ℕ) (id : Option ℤ) (inner : Data) → is_utf8 name ≡ true → is_id id ≡ true → Good inner → Good (object (field_keys name id inner))
+pub field_is_good : (name : List ℕ) (id : Option ℤ) (inner : Data) → is_utf8 name ≡ true → is_id id ≡ true → Good inner
+    → Good (object (field_keys name id inner))
 field_is_good name id inner text has_id good =
     (built_field name id inner, id_good (codes "field-id") id _ refl has_id (put_good (codes "type") inner (put (codes "name") (name_data name) no_members) refl good (refl, text_of name text, tt)))
 
-record_good : (name : List ℕ) (es : List (ProvedField GoodField)) → GoodWriting (named name (record_written name (map written_field (map (λ e. e.0) es)))) (when (is_utf8 name) (λ b. option_and_then (each_once (map once_field (map (λ e. e.0) es))) (one_name name b)))
+record_good : (name : List ℕ) (es : List (ProvedField GoodField))
+    → GoodWriting (named name (record_written name (map written_field (map (λ e. e.0) es))))
+    (when (is_utf8 name) (λ b. option_and_then (each_once (map once_field (map (λ e. e.0) es))) (one_name name b)))
 record_good name es b after begun =
     let fields : List Field = map (λ (e : ProvedField GoodField). e.0) es in
     let o = when_true (is_utf8 name) (λ n. option_and_then (each_once (map once_field fields)) (one_name name n)) b after begun in
@@ -253,7 +265,8 @@ record_good name es b after begun =
           (record_is_good name (items_of (write_each (map written_field fields) p.0).0) o.0 inner.1),
     )
 
-good_levels : (y : open_schema.Schema-F (Proved GoodSchema) (ProvedField GoodField)) → GoodSchema (roll-Schema (map-Schema (Proved GoodSchema) (ProvedField GoodField) Schema Field (λ e. e.0) (λ e. e.0) y))
+good_levels : (y : open_schema.Schema-F (Proved GoodSchema) (ProvedField GoodField))
+    → GoodSchema (roll-Schema (map-Schema (Proved GoodSchema) (ProvedField GoodField) Schema Field (λ e. e.0) (λ e. e.0) y))
 good_levels open_schema.Null = good_level open_schema.Null _ _ (written_roll open_schema.Null) (once_roll open_schema.Null) (λ b after begun. (same_some b after begun, is_text (codes "null") refl))
 good_levels open_schema.Boolean = good_level open_schema.Boolean _ _ (written_roll open_schema.Boolean) (once_roll open_schema.Boolean) (λ b after begun. (same_some b after begun, is_text (codes "boolean") refl))
 good_levels (open_schema.Int logical) = good_level (open_schema.Int logical) _ _ (written_roll (open_schema.Int logical)) (once_roll (open_schema.Int logical))
@@ -285,7 +298,8 @@ good_levels (open_schema.Fixed name size logical) = good_level (open_schema.Fixe
     good_named name (fixed_written name size logical) b after o.1
     (fixed_is_good name size logical u.0 g.0 (ltb-true size (2 ^ 64) g.1)) refl))
 
-good_fields : (y : open_schema.Field-F (Proved GoodSchema) (ProvedField GoodField)) → GoodField (roll-Field (map-Field (Proved GoodSchema) (ProvedField GoodField) Schema Field (λ e. e.0) (λ e. e.0) y))
+good_fields : (y : open_schema.Field-F (Proved GoodSchema) (ProvedField GoodField))
+    → GoodField (roll-Field (map-Field (Proved GoodSchema) (ProvedField GoodField) Schema Field (λ e. e.0) (λ e. e.0) y))
 good_fields y b after begun =
     let x : open_schema.Field-F Schema Field = map-Field (Proved GoodSchema) (ProvedField GoodField) Schema Field (λ e. e.0) (λ e. e.0) y in
     let o = when_true (is_utf8 y.name && is_id y.id) (once y.schema.0) b after (sym (ap (λ (g : Begins). g b) (once_field_roll x)) ∙ begun) in
@@ -305,7 +319,8 @@ written_good s = by_levels GoodSchema GoodField good_levels good_fields s
 both_small : (a b n : ℕ) → a ≤ n → b ≤ n → max a b ≤ n
 both_small a b n p q = omega arith
 
-put_deep_step : (o : Ordering) (k l : List ℕ) (d e : Data) (ms : Members) (n : ℕ) → depth d ≤ n → depth e ≤ n → members_depth ms ≤ n → members_depth (put k d ms) ≤ n
+put_deep_step : (o : Ordering) (k l : List ℕ) (d e : Data) (ms : Members) (n : ℕ) → depth d ≤ n → depth e ≤ n
+    → members_depth ms ≤ n → members_depth (put k d ms) ≤ n
     → members_depth (match_ordering o (member k d (member l e ms)) (member l d ms) (member l e (put k d ms))) ≤ n
 put_deep_step ordering.Less k l d e ms n hd he hms hput = both_small (depth d) (max (depth e) (members_depth ms)) n hd (both_small (depth e) (members_depth ms) n he hms)
 put_deep_step ordering.Equal k l d e ms n hd he hms hput = both_small (depth d) (members_depth ms) n hd hms
@@ -350,7 +365,8 @@ symbols_flat : (ns : List (List ℕ)) → items_depth (items_of (map name_data n
 symbols_flat [] = omega arith
 symbols_flat (n ∷ ns) = both_small 0 (items_depth (items_of (map name_data ns))) 0 (omega arith) (symbols_flat ns)
 
-named_flat : (c : Bool) (name : List ℕ) (out : Data × List (List ℕ)) (b : List (List ℕ)) (n : ℕ) → depth out.0 ≤ n → depth (if c then (let p : Data × List (List ℕ) = (name_data name, b) in p) else out).0 ≤ n
+named_flat : (c : Bool) (name : List ℕ) (out : Data × List (List ℕ)) (b : List (List ℕ)) (n : ℕ) → depth out.0 ≤ n
+    → depth (if c then (let p : Data × List (List ℕ) = (name_data name, b) in p) else out).0 ≤ n
 named_flat true name out b n h = omega arith
 named_flat false name out b n h = h
 
@@ -364,7 +380,8 @@ Deep s = (d : ℕ) (b : List (List ℕ)) (l left : ℕ) → placed s d l ≡ Som
 abbrev DeepField : Field → Type 0
 DeepField f = (d : ℕ) (b : List (List ℕ)) (l left : ℕ) → placed_field f d l ≡ Some left → depth (written_field f b).0 ≤ 3 * d + 1
 
-each_deep : {X : Type 0} (write : X → Writing Data) (place : X → Placing) (Q : X → Type 0) (d n : ℕ) → ((x : X) → Q x → (b : List (List ℕ)) (l left : ℕ) → place x d l ≡ Some left → depth (write x b).0 ≤ n)
+each_deep : {X : Type 0} (write : X → Writing Data) (place : X → Placing) (Q : X → Type 0) (d n : ℕ)
+    → ((x : X) → Q x → (b : List (List ℕ)) (l left : ℕ) → place x d l ≡ Some left → depth (write x b).0 ≤ n)
     → (es : List ((x : X) × Q x)) (b : List (List ℕ)) (l left : ℕ) → place_each (map place (map (λ e. e.0) es)) d l ≡ Some left → items_depth (items_of (write_each (map write (map (λ e. e.0) es)) b).0) ≤ n
 unfolding place_each
 each_deep write place Q d n law [] b l left placing = omega arith
@@ -397,7 +414,8 @@ array_deep ds d h = omega arith
 fields_deep : (ds : Items) (d : ℕ) → items_depth ds ≤ 3 * d + 1 → depth (array ds) ≤ 3 * d + 2
 fields_deep ds d h = omega arith
 
-record_deep : (name : List ℕ) (es : List (ProvedField DeepField)) (d : ℕ) (b : List (List ℕ)) (l left : ℕ) → place_each (map placed_field (map (λ e. e.0) es)) d l ≡ Some left
+record_deep : (name : List ℕ) (es : List (ProvedField DeepField)) (d : ℕ) (b : List (List ℕ)) (l left : ℕ)
+    → place_each (map placed_field (map (λ e. e.0) es)) d l ≡ Some left
     → depth (named name (record_written name (map written_field (map (λ e. e.0) es))) b).0 ≤ 3 * d + 3
 record_deep name es d b l left placing =
     let fields : List Field = map (λ (e : ProvedField DeepField). e.0) es in
@@ -405,7 +423,8 @@ record_deep name es d b l left placing =
     (λ c. object_deep (put (codes "fields") (array (items_of (write_each (map written_field fields) c).0)) (named_keys (codes "record") name)) d (3 * d + 2) (put_deep (codes "fields") (array (items_of (write_each (map written_field fields) c).0)) (named_keys (codes "record") name) (3 * d + 2)
     (fields_deep (items_of (write_each (map written_field fields) c).0) d (each_deep written_field placed_field DeepField d (3 * d + 1) (λ x q e m r h. q d e m r h) es c l left placing)) (keys_flat (codes "record") name (3 * d + 2))) (omega arith))
 
-deep_levels : (y : open_schema.Schema-F (Proved Deep) (ProvedField DeepField)) → Deep (roll-Schema (map-Schema (Proved Deep) (ProvedField DeepField) Schema Field (λ e. e.0) (λ e. e.0) y))
+deep_levels : (y : open_schema.Schema-F (Proved Deep) (ProvedField DeepField))
+    → Deep (roll-Schema (map-Schema (Proved Deep) (ProvedField DeepField) Schema Field (λ e. e.0) (λ e. e.0) y))
 deep_levels open_schema.Null = deep_level open_schema.Null _ (written_roll open_schema.Null) (λ d b l left placing. omega arith)
 deep_levels open_schema.Boolean = deep_level open_schema.Boolean _ (written_roll open_schema.Boolean) (λ d b l left placing. omega arith)
 deep_levels (open_schema.Int logical) = deep_level (open_schema.Int logical) _ (written_roll (open_schema.Int logical)) (λ d b l left placing. primitive_deep (codes "int") logical d)
@@ -427,7 +446,8 @@ deep_levels (open_schema.Union es) =
 deep_levels (open_schema.Fixed name size logical) = deep_level (open_schema.Fixed name size logical) _ (written_roll (open_schema.Fixed name size logical))
     (λ d b l left placing. named_deep name (fixed_written name size logical) b (3 * d + 3) (λ c. object_deep (fixed_keys name size logical) d 0 (logical_deep logical _ 0 (flat (codes "size") (number (unsigned size)) (named_keys (codes "fixed") name) 0 refl (keys_flat (codes "fixed") name 0))) (omega arith)))
 
-deep_fields : (y : open_schema.Field-F (Proved Deep) (ProvedField DeepField)) → DeepField (roll-Field (map-Field (Proved Deep) (ProvedField DeepField) Schema Field (λ e. e.0) (λ e. e.0) y))
+deep_fields : (y : open_schema.Field-F (Proved Deep) (ProvedField DeepField))
+    → DeepField (roll-Field (map-Field (Proved Deep) (ProvedField DeepField) Schema Field (λ e. e.0) (λ e. e.0) y))
 deep_fields y d b l left placing =
     let x : open_schema.Field-F Schema Field = map-Field (Proved Deep) (ProvedField DeepField) Schema Field (λ e. e.0) (λ e. e.0) y in
     let inner : depth (written y.schema.0 b).0 ≤ 3 * d = y.schema.1 d b l left (sym (ap (λ (p : Placing). p d l) (placed_field_roll x)) ∙ placing) in

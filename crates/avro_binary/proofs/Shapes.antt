@@ -12,7 +12,8 @@ pub shape_count_is : (ss : List Schema) → shape_count (shapes (map shape ss)) 
 shape_count_is [] = refl
 shape_count_is (s ∷ ss) = ap suc (shape_count_is ss)
 
-pub branch_is : (ss : List Schema) (i : ℕ) (s : Schema) (bytes : List ℕ) → slice_get ss i ≡ Some s → branch_at (shapes (map shape ss)) i bytes ≡ datum_at (shape s) bytes
+pub branch_is : (ss : List Schema) (i : ℕ) (s : Schema) (bytes : List ℕ) → slice_get ss i ≡ Some s
+    → branch_at (shapes (map shape ss)) i bytes ≡ datum_at (shape s) bytes
 unfolding branch_at
 branch_is [] i s bytes e = absurd cc
 branch_is (x ∷ ss) zero s bytes e = ap (λ (y : Schema). datum_at (shape y) bytes) cc

@@ -94,7 +94,8 @@ each_again fits reads spell again (x ∷ xs) rest all short =
       each_again fits reads spell again xs rest all.1 less,
     )
 
-pub items_count : {A : Type 0} (fits : A → Type 0) (spell : A → List ℕ) → ((x : A) → fits x → 0 < length (spell x)) → (xs : List A) → AllByRecursion fits xs → length xs ≤ length (concat (map spell xs))
+pub items_count : {A : Type 0} (fits : A → Type 0) (spell : A → List ℕ) → ((x : A) → fits x → 0 < length (spell x))
+    → (xs : List A) → AllByRecursion fits xs → length xs ≤ length (concat (map spell xs))
 items_count fits spell takes [] all = omega arith
 items_count fits spell takes (x ∷ xs) all =
     let one : 0 < length (spell x) = takes x all.0 in
@@ -108,7 +109,8 @@ no_more rest = count_again 0 rest (omega arith) (omega arith)
 block_parts : (number items rest : List ℕ) → ((number ++ items) ++ 0 ∷ []) ++ rest ≡ number ++ (items ++ 0 ∷ rest)
 block_parts number items rest = simp append_assoc
 
-pub block_again : {A : Type 0} (fits : A → Type 0) (reads : List ℕ → A → List ℕ → Type 0) (spell : A → List ℕ) → ReadAgain fits reads spell → ((x : A) → fits x → 0 < length (spell x))
+pub block_again : {A : Type 0} (fits : A → Type 0) (reads : List ℕ → A → List ℕ → Type 0) (spell : A → List ℕ)
+    → ReadAgain fits reads spell → ((x : A) → fits x → 0 < length (spell x))
     → (xs : List A) (rest : List ℕ) → AllByRecursion fits xs → length (block (map spell xs)) < 2 ^ 63 → ReadsAll reads (block (map spell xs) ++ rest) xs rest
 block_again fits reads spell again takes [] rest all short = ([], no_more rest, refl)
 block_again {A = A} fits reads spell again takes (x ∷ xs) rest all short =
@@ -179,7 +181,8 @@ mutual
 
 -- ---- datums are read again
 
-pub pair_again : (values : Shape) → ReadAgain (Fits values) (Reads values) spelling → ReadAgain (λ (p : MapPair). IsUtf8 p.key × Fits values p.value) (ReadsPair (Reads values)) pair_spelling
+pub pair_again : (values : Shape) → ReadAgain (Fits values) (Reads values) spelling
+    → ReadAgain (λ (p : MapPair). IsUtf8 p.key × Fits values p.value) (ReadsPair (Reads values)) pair_spelling
 pair_again values again p rest fit short =
     let parts : pair_spelling p ≡ counted p.key ++ spelling p.value = spells_pair p in
     let len : length (pair_spelling p) ≡ length (counted p.key) + length (spelling p.value) = ap length parts ∙ length-append (counted p.key) (spelling p.value) in
@@ -253,7 +256,8 @@ mutual
       (h.0, spelling h.1 ++ rest, index_again (shape_count branches) h.0 (spelling h.1 ++ rest) (branch_counts branches h.0 h.1 h.3) h.2, (h.1, branch_again branches h.0 h.1 rest room h.3 less, h.4)))
   datum_again (fixed_shape size) room d rest h short = spelled (fixed_shape size) d h.0 rest (ap spelling h.2 ∙ spells_fixed h.0) (h.0, (h.1, refl), h.2)
 
-  fields_again : (ss : Shapes) (ds : List Datum) (rest : List ℕ) → all_items_take_bytes ss ≡ true → FitsFields ss ds → length (concat (map spelling ds)) < 2 ^ 63 → ReadsFields ss (concat (map spelling ds) ++ rest) ds rest
+  fields_again : (ss : Shapes) (ds : List Datum) (rest : List ℕ) → all_items_take_bytes ss ≡ true → FitsFields ss ds
+      → length (concat (map spelling ds)) < 2 ^ 63 → ReadsFields ss (concat (map spelling ds) ++ rest) ds rest
   fields_again no_shapes ds rest room h short = (h, ap (λ (ts : List Datum). concat (map spelling ts) ++ rest) h)
   fields_again (more_shapes s ss) ds rest room h short =
       let others : List ℕ = concat (map spelling h.1) in
@@ -266,10 +270,12 @@ mutual
       subst (λ (t : List ℕ). ReadsFields (more_shapes s ss) t ds rest) (sym whole)
       (h.0, others ++ rest, datum_again s rooms.0 h.0 (others ++ rest) h.2 first, (h.1, fields_again ss h.1 rest rooms.1 h.3 less, h.4))
 
-  branch_again : (ss : Shapes) (index : ℕ) (d : Datum) (rest : List ℕ) → all_items_take_bytes ss ≡ true → FitsBranch ss index d → length (spelling d) < 2 ^ 63 → ReadsBranch ss index (spelling d ++ rest) d rest
+  branch_again : (ss : Shapes) (index : ℕ) (d : Datum) (rest : List ℕ) → all_items_take_bytes ss ≡ true → FitsBranch ss index d
+      → length (spelling d) < 2 ^ 63 → ReadsBranch ss index (spelling d ++ rest) d rest
   branch_again no_shapes index d rest room h short = absurd h
   branch_again (more_shapes s ss) zero d rest room h short = datum_again s (both (items_take_bytes s) (all_items_take_bytes ss) room).0 d rest h short
   branch_again (more_shapes s ss) (suc index) d rest room h short = branch_again ss index d rest (both (items_take_bytes s) (all_items_take_bytes ss) room).1 h short
 
-pub datum_read_again : (s : Shape) (d : Datum) (rest : List ℕ) → items_take_bytes s ≡ true → Fits s d → length (spelling d) < 2 ^ 63 → datum_at s (spelling d ++ rest) ≡ Ok (d, rest)
+pub datum_read_again : (s : Shape) (d : Datum) (rest : List ℕ) → items_take_bytes s ≡ true → Fits s d
+    → length (spelling d) < 2 ^ 63 → datum_at s (spelling d ++ rest) ≡ Ok (d, rest)
 datum_read_again s d rest room fit short = (datum_law s (spelling d ++ rest)).only d rest (datum_again s room d rest fit short)

@@ -7,13 +7,8 @@ use Rattle.avro_binary.specs.declared.fault.Stop.{Stop}
 use Rattle.avro_binary.specs.declared.fault.Stop.TheVariants.{Memory, At}
 
 -- a value and the bytes after it, or a fault and how many bytes are left where it begins
-abbrev pub Answer : Type 0 → Type 0
-Answer A = Result (A × List ℕ) Spot
-
-infixl 10 ◌>>=◌
-abbrev pub ◌>>=◌ : {A B : Type 0} → Result A Spot → (A → Result B Spot) → Result B Spot
-(Ok x) >>= f = f x
-(Err e) >>= f = Err e
+abbrev pub Part : Type 0 → Type 0
+Part A = Result (A × List ℕ) Spot
 
 -- the bytes end
 abbrev pub ended : Spot

@@ -8,7 +8,7 @@ use Rattle.avro_binary.specs.declared.fault.Stop.TheVariants as stop
 use Rattle.avro_binary.specs.declared.fault.DatumFault.{DatumFault}
 use Rattle.avro_binary.specs.declared.fault.DatumFault.TheVariants.{Short, Long, Branch, Text, Size, Memory}
 use Rattle.avro_binary.specs.declared.datum.Datum.{Datum}
-use Rattle.avro_binary.specs.Answer.{Answer}
+use Rattle.avro_binary.specs.Answer.{Part}
 use Rattle.avro_binary.specs.Shape.{Shape}
 use Rattle.avro_binary.specs.Grammar.{Fails}
 
@@ -29,9 +29,9 @@ fault_from whole stop.Memory = Memory
 fault_from whole (stop.At s) = fault_of whole s
 
 -- what was answered at these bytes is what the reading gives, unless memory ran out
-abbrev pub Answers : Result (Datum × ℕ) DatumFault → List ℕ → Answer Datum → Type 0
-Answers (Ok x) bytes read = (x.1 ≤ length bytes) × (read ≡ Ok (x.0, drop x.1 bytes))
-Answers (Err f) bytes read = (f ≡ Memory) ⊎ ((s : Spot) × (f ≡ fault_of (length bytes) s) × (read ≡ Err s))
+abbrev pub AnswersDatum : Result (Datum × ℕ) DatumFault → List ℕ → Part Datum → Type 0
+AnswersDatum (Ok x) bytes read = (x.1 ≤ length bytes) × (read ≡ Ok (x.0, drop x.1 bytes))
+AnswersDatum (Err f) bytes read = (f ≡ Memory) ⊎ ((s : Spot) × (f ≡ fault_of (length bytes) s) × (read ≡ Err s))
 
 -- the first fault of the bytes, unless memory ran out
 abbrev pub MayFail : Shape → List ℕ → DatumFault → Type 0

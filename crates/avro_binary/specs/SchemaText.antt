@@ -5,6 +5,7 @@ use Rattle.std.specs.Str.{bytes_eq, is_utf8}
 use Rattle.serde_json.specs.Data.{Data, Items, no_items, item}
 use Rattle.serde_json.specs.Find.{get, as_str, as_array, as_bool, as_number, as_u64, as_i64}
 use Rattle.serde_json.specs.Read.{read}
+use Rattle.plain_types.specs.Steps.{◌>>=◌}
 use Rattle.avro_binary.specs.declared.schema_fault.SchemaFault.{SchemaFault}
 use Rattle.avro_binary.specs.declared.schema_fault.SchemaFault.TheVariants.{Json, TypeName, Shape, Depth, Memory}
 use Rattle.avro_binary.specs.declared.names.Names.{Names}
@@ -18,16 +19,6 @@ use Rattle.avro_binary.specs.declared.word.Word.TheVariants as word
 use Rattle.avro_binary.specs.Word.{word_of}
 use Rattle.avro_binary.specs.Naming.{space_of, full_name, find, has_begun}
 use Rattle.avro_binary.specs.Placed.{placed}
-
-infixl 10 ◌>>=◌
-abbrev pub ◌>>=◌ : {A B : Type 0} → Result A SchemaFault → (A → Result B SchemaFault) → Result B SchemaFault
-(Ok x) >>= f = f x
-(Err e) >>= f = Err e
-
--- What a function returned is what the definition gives, unless memory ran out.
-abbrev pub Finds : {X Y : Type 0} → (X → Y) → Result X SchemaFault → Result Y SchemaFault → Type 0
-Finds view (Ok x) wanted = wanted ≡ Ok (view x)
-Finds view (Err f) wanted = f ≢ Memory → wanted ≡ Err f
 
 -- a key that the node needs
 abbrev pub needed : {A : Type 0} → Option A → Result A SchemaFault

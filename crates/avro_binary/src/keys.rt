@@ -4,7 +4,8 @@ ghost use Rattle.std.specs.Prelude.{◌≡◌, codes, unwrap_or, option_map, opt
 ghost use Rattle.serde_json.specs.Data.{Data};
 ghost use Rattle.serde_json.specs.View.{view, items_view};
 ghost use Rattle.serde_json.specs.Find.{get, as_array, as_bool};
-ghost use Rattle.avro_binary.specs.SchemaText.{text_at, number_at, narrow, id_at, decimal, or_zero, logical_named, logical_of, is_map, type_name, Finds};
+ghost use Rattle.avro_binary.specs.SchemaText.{text_at, number_at, narrow, id_at, decimal, or_zero, logical_named, logical_of, is_map, type_name};
+ghost use Rattle.plain_types.specs.Answers.{Answers};
 
 use crate::schema::Logical;
 use crate::word::is;

@@ -2,7 +2,8 @@
 
 ghost use Rattle.std.specs.Prelude.{◌≡◌, IfOk, Ok};
 ghost use Rattle.serde_json.specs.View.{view, items_view};
-ghost use Rattle.avro_binary.specs.SchemaText.{Finds, used, begin, finish, defined_name, each, symbol, enum_node, fixed_node, name_node};
+ghost use Rattle.avro_binary.specs.SchemaText.{used, begin, finish, defined_name, each, symbol, enum_node, fixed_node, name_node};
+ghost use Rattle.plain_types.specs.Answers.{Answers};
 
 use crate::copies::copy_of;
 use crate::keys::{array_at, logical_of, number_at, text_at};
@@ -31,7 +32,7 @@ pub fn used(names: Names) -> Names
 
 #[tactic(auto, unfolding(crate::specs::SchemaText::begin))]
 pub fn begin(alloc: Global, full: &Octets, names: Names) -> Result<Names, SchemaFault>
-    ensures { Finds (λ x. x) result (begin full.now names) }
+    ensures { Answers SchemaFault.Memory (λ x. x) result (begin full.now names) }
 {
     let Names {
         finished,
@@ -55,7 +56,7 @@ pub fn finish(
     schema: Schema,
     names: Names,
 ) -> Result<(Schema, Names), SchemaFault>
-    ensures { Finds (λ x. x) result (Ok (finish full schema names)) }
+    ensures { Answers SchemaFault.Memory (λ x. x) result (Ok (finish full schema names)) }
 {
     let Names {
         mut finished,
@@ -94,7 +95,7 @@ pub fn defined_name(
 
 #[tactic(auto, unfolding(crate::specs::SchemaText::symbol))]
 fn symbol(alloc: Global, json: &Value, names: Names) -> Result<(Octets, Names), SchemaFault>
-    ensures { Finds (λ x. x) result (symbol (view json.now) names) }
+    ensures { Answers SchemaFault.Memory (λ x. x) result (symbol (view json.now) names) }
 {
     match json.as_str() {
         Some(text) => Ok((Octets::copy_of(alloc, text.as_bytes())?, names)),
@@ -107,7 +108,7 @@ fn symbols(
     items: &[Value],
     names: Names,
 ) -> Result<(Vec<Octets>, Names), SchemaFault>
-    ensures { Finds (λ x. (x.0.items, x.1)) result (each symbol (items_view items.now) names) }
+    ensures { Answers SchemaFault.Memory (λ x. (x.0.items, x.1)) result (each symbol (items_view items.now) names) }
 {
     let mut found = Vec::new(alloc);
     let mut names = names;
@@ -126,7 +127,7 @@ pub fn enum_node(
     json: &Value,
     names: Names,
 ) -> Result<(Schema, Names), SchemaFault>
-    ensures { Finds (λ x. x) result (enum_node space.now (view json.now) names) }
+    ensures { Answers SchemaFault.Memory (λ x. x) result (enum_node space.now (view json.now) names) }
 {
     let Some(name) = text_at(json, "name") else {
         return Err(SchemaFault::Shape);
@@ -152,7 +153,7 @@ pub fn fixed_node(
     json: &Value,
     names: Names,
 ) -> Result<(Schema, Names), SchemaFault>
-    ensures { Finds (λ x. x) result (fixed_node space.now (view json.now) names) }
+    ensures { Answers SchemaFault.Memory (λ x. x) result (fixed_node space.now (view json.now) names) }
 {
     let Some(name) = text_at(json, "name") else {
         return Err(SchemaFault::Shape);
@@ -180,7 +181,7 @@ pub fn name_node(
     name: &[u8],
     names: Names,
 ) -> Result<(Schema, Names), SchemaFault>
-    ensures { Finds (λ x. x) result (name_node depth space.now name.now names) }
+    ensures { Answers SchemaFault.Memory (λ x. x) result (name_node depth space.now name.now names) }
 {
     let full = full_name(alloc, space, name)?;
     let Names {

@@ -1,7 +1,20 @@
 ghost use Rattle.std.specs.Prelude.{◌≡◌, ◌^◌, ◌≤◌, ◌+◌, length};
 ghost use Rattle.std.specs.Str.{is_utf8};
 ghost use Rattle.avro_binary.specs.Answer.{Gives};
-ghost use Rattle.avro_binary.specs.Number.{signed, groups_at, number_at, int_at, long_at, length_at, index_at, front_at, bytes_at, text_at, counted_at, count_at};
+ghost use Rattle.avro_binary.specs.Number.{
+  signed,
+  groups_at,
+  number_at,
+  int_at,
+  long_at,
+  length_at,
+  index_at,
+  front_at,
+  bytes_at,
+  text_at,
+  counted_at,
+  count_at,
+};
 
 use crate::fault::{FaultKind, Stop, fault, short};
 

@@ -4,7 +4,7 @@ ghost use Rattle.avro_binary.specs.declared.fault.Spot.{Spot as At};
 ghost use Rattle.avro_binary.specs.Shape.{Shape, shape};
 ghost use Rattle.avro_binary.specs.Reading.{datum_at};
 ghost use Rattle.avro_binary.specs.Grammar.{Reads, Fails};
-ghost use Rattle.avro_binary.specs.Fault.{fault_of, fault_from, fault_at, Answers, MayFail};
+ghost use Rattle.avro_binary.specs.Fault.{fault_of, fault_from, fault_at, AnswersDatum, MayFail};
 
 use crate::datum::Datum;
 use crate::fault::{DatumFault, FaultKind, Spot, Stop};
@@ -41,7 +41,7 @@ fn fault_from(whole: usize, stop: Stop) -> DatumFault
 }
 
 fn answer(alloc: Global, schema: &Schema, bytes: &[u8]) -> Result<(Datum, usize), DatumFault>
-    ensures { Answers result bytes.now (datum_at (shape schema.now) bytes.now) }
+    ensures { AnswersDatum result bytes.now (datum_at (shape schema.now) bytes.now) }
 {
     match datum_at(alloc, schema, bytes) {
         Ok((datum, rest)) => Ok((datum, bytes.len() - rest.len())),
@@ -66,7 +66,7 @@ pub fn read_datum(
     // A fault is the first one, at its place.
     ensures fails { IfErr result (λ f. MayFail (shape schema.now) bytes.now f) }
     // Which answer it is, as a function computes it.
-    ensures exact { Answers result bytes.now (datum_at (shape schema.now) bytes.now) }
+    ensures exact { AnswersDatum result bytes.now (datum_at (shape schema.now) bytes.now) }
 {
     answer(alloc, schema, bytes)
 }

@@ -4,7 +4,26 @@ ghost use Rattle.std.specs.Prelude.{◌≡◌, ◌++◌, ◌∷◌, [], codes, m
 ghost use Rattle.std.specs.Str.Lossy.{utf8_lossy};
 ghost use Rattle.serde_json.specs.Data.{string, array, object, no_members, put as with_member};
 ghost use Rattle.serde_json.specs.View.{view, items_view, members_view};
-ghost use Rattle.avro_binary.specs.SchemaData.{name_data, type_key, with_id, with_logical, with_map, named_keys, primitive, symbols, write_each, named, record_written, enum_written, fixed_written, array_written, map_written, union_written, written, written_field};
+ghost use Rattle.avro_binary.specs.SchemaData.{
+  name_data,
+  type_key,
+  with_id,
+  with_logical,
+  with_map,
+  named_keys,
+  primitive,
+  symbols,
+  write_each,
+  named,
+  record_written,
+  enum_written,
+  fixed_written,
+  array_written,
+  map_written,
+  union_written,
+  written,
+  written_field,
+};
 
 use crate::names::{has_begun, space_of};
 use crate::schema::{Field, Logical, Schema};

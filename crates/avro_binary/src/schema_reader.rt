@@ -1,6 +1,7 @@
 ghost use Rattle.std.specs.Prelude.{◌≡◌};
 ghost use Rattle.serde_json.specs.View.{view};
-ghost use Rattle.avro_binary.specs.SchemaText.{Finds, start, schema_of, schema_from};
+ghost use Rattle.avro_binary.specs.SchemaText.{start, schema_of, schema_from};
+ghost use Rattle.plain_types.specs.Answers.{Answers};
 
 use crate::names::Names;
 use crate::schema::Schema;
@@ -22,7 +23,7 @@ fn start(alloc: Global) -> Names
 
 #[tactic(auto, unfolding(crate::specs::SchemaText::schema_of))]
 fn schema_of(alloc: Global, json: &Value) -> Result<Schema, SchemaFault>
-    ensures { Finds (λ x. x) result (schema_of (view json.now)) }
+    ensures { Answers SchemaFault.Memory (λ x. x) result (schema_of (view json.now)) }
 {
     let (schema, _names) = schema_at(alloc, 32, b"", json, start(alloc))?;
     Ok(schema)
@@ -35,7 +36,7 @@ fn schema_of(alloc: Global, json: &Value) -> Result<Schema, SchemaFault>
 /// Names aren't tested for their letters, nor unions for equal branches.
 #[tactic(auto, unfolding(crate::specs::SchemaText::schema_from))]
 pub fn read_schema(alloc: Global, bytes: &[u8]) -> Result<Schema, SchemaFault>
-    ensures exact { Finds (λ x. x) result (schema_from bytes.now) }
+    ensures exact { Answers SchemaFault.Memory (λ x. x) result (schema_from bytes.now) }
 {
     match Value::from_slice(alloc, bytes) {
         Ok(json) => schema_of(alloc, &json),

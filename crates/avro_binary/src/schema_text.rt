@@ -3,7 +3,8 @@
 ghost use Rattle.std.specs.Prelude.{◌≡◌, ◌≤◌, ◌<◌, ◌-◌, ◌+◌};
 ghost use Rattle.serde_json.specs.View.{view, items_view};
 ghost use Rattle.avro_binary.specs.Word.{word_of};
-ghost use Rattle.avro_binary.specs.SchemaText.{Finds, each, field, record_node, array_node, map_node, union_node, typed, single, schema_at};
+ghost use Rattle.avro_binary.specs.SchemaText.{each, field, record_node, array_node, map_node, union_node, typed, single, schema_at};
+ghost use Rattle.plain_types.specs.Answers.{Answers};
 
 use crate::keys::{array_at, id_at, is_map, logical_of, text_at, type_name};
 use crate::named_types::{begin, defined_name, enum_node, finish, fixed_node, name_node, used};
@@ -25,7 +26,7 @@ fn field(
     names: Names,
 ) -> Result<(Field, Names), SchemaFault>
     requires { inner < 32 }
-    ensures { Finds (λ x. x) result (field (schema_at inner) space.now (view json.now) names) }
+    ensures { Answers SchemaFault.Memory (λ x. x) result (field (schema_at inner) space.now (view json.now) names) }
 {
     let Some(name) = text_at(json, "name") else {
         return Err(SchemaFault::Shape);
@@ -48,7 +49,7 @@ fn fields(
     names: Names,
 ) -> Result<(Vec<Field>, Names), SchemaFault>
     requires { inner < 32 }
-    ensures { Finds (λ x. (x.0.items, x.1)) result (each (field (schema_at inner) space.now) (items_view items.now) names) }
+    ensures { Answers SchemaFault.Memory (λ x. (x.0.items, x.1)) result (each (field (schema_at inner) space.now) (items_view items.now) names) }
 {
     let mut found = Vec::new(alloc);
     let mut names = names;
@@ -69,7 +70,7 @@ fn branches(
     names: Names,
 ) -> Result<(Vec<Schema>, Names), SchemaFault>
     requires { inner < 32 }
-    ensures { Finds (λ x. (x.0.items, x.1)) result (each (schema_at inner space.now) (items_view items.now) names) }
+    ensures { Answers SchemaFault.Memory (λ x. (x.0.items, x.1)) result (each (schema_at inner space.now) (items_view items.now) names) }
 {
     let mut found = Vec::new(alloc);
     let mut names = names;
@@ -91,7 +92,7 @@ fn record_node(
     names: Names,
 ) -> Result<(Schema, Names), SchemaFault>
     requires { inner < 32 }
-    ensures { Finds (λ x. x) result (record_node (schema_at inner) space.now (view json.now) names) }
+    ensures { Answers SchemaFault.Memory (λ x. x) result (record_node (schema_at inner) space.now (view json.now) names) }
 {
     let Some(name) = text_at(json, "name") else {
         return Err(SchemaFault::Shape);
@@ -126,7 +127,7 @@ fn array_node(
     names: Names,
 ) -> Result<(Schema, Names), SchemaFault>
     requires { inner < 32 }
-    ensures { Finds (λ x. x) result (array_node (schema_at inner) space.now (view json.now) names) }
+    ensures { Answers SchemaFault.Memory (λ x. x) result (array_node (schema_at inner) space.now (view json.now) names) }
 {
     let Some(items) = json.get("items") else {
         return Err(SchemaFault::Shape);
@@ -155,7 +156,7 @@ fn map_node(
     names: Names,
 ) -> Result<(Schema, Names), SchemaFault>
     requires { inner < 32 }
-    ensures { Finds (λ x. x) result (map_node (schema_at inner) space.now (view json.now) names) }
+    ensures { Answers SchemaFault.Memory (λ x. x) result (map_node (schema_at inner) space.now (view json.now) names) }
 {
     let Some(values) = json.get("values") else {
         return Err(SchemaFault::Shape);
@@ -184,7 +185,7 @@ fn union_node(
     names: Names,
 ) -> Result<(Schema, Names), SchemaFault>
     requires { inner < 32 }
-    ensures { Finds (λ x. x) result (union_node (schema_at inner) space.now (items_view items.now) names) }
+    ensures { Answers SchemaFault.Memory (λ x. x) result (union_node (schema_at inner) space.now (items_view items.now) names) }
 {
     let (found, after) = branches(alloc, inner, space, items, used(names))?;
     Ok((Schema::Union(Items::from_vec(found)), after))
@@ -201,7 +202,7 @@ fn typed(
     names: Names,
 ) -> Result<(Schema, Names), SchemaFault>
     requires { inner < 32 }
-    ensures { Finds (λ x. x) result (typed (schema_at inner) (inner + 1) space.now (word_of name.now) name.now (view json.now) names) }
+    ensures { Answers SchemaFault.Memory (λ x. x) result (typed (schema_at inner) (inner + 1) space.now (word_of name.now) name.now (view json.now) names) }
 {
     match word_of(name) {
         Word::Null => Ok((Schema::Null, used(names))),
@@ -229,7 +230,7 @@ fn single(
     names: Names,
 ) -> Result<(Schema, Names), SchemaFault>
     requires { inner < 32 }
-    ensures { Finds (λ x. x) result (single (schema_at inner) (inner + 1) space.now (view json.now) names) }
+    ensures { Answers SchemaFault.Memory (λ x. x) result (single (schema_at inner) (inner + 1) space.now (view json.now) names) }
 {
     match type_name(json) {
         Some(name) => typed(alloc, inner, space, name.as_bytes(), json, names),
@@ -248,7 +249,7 @@ pub fn schema_at(
     names: Names,
 ) -> Result<(Schema, Names), SchemaFault>
     requires { depth ≤ 32 }
-    ensures { Finds (λ x. x) result (schema_at depth space.now (view json.now) names) }
+    ensures { Answers SchemaFault.Memory (λ x. x) result (schema_at depth space.now (view json.now) names) }
 {
     if depth == 0 || names.left == 0 {
         return Err(SchemaFault::Depth);

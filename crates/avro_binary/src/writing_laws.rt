@@ -19,8 +19,10 @@ pub fn numbers_are_spelled_shortest()
 /// What is written is read again, whatever follows it. Each array's items take bytes, since a block counts
 /// no more items than bytes are left.
 pub fn what_is_written_is_read()
-    ensures reading { (s : Shape) (d : Tree) (rest : List ℕ) → IsTrue (items_take_bytes s) → Fits s d → length (spelling d) < 2 ^ 63 → datum_at s (spelling d ++ rest) ≡ Ok (d, rest) }
-    ensures grammar { (s : Shape) (d : Tree) (rest : List ℕ) → IsTrue (items_take_bytes s) → Fits s d → length (spelling d) < 2 ^ 63 → Reads s (spelling d ++ rest) d rest }
+    ensures reading { (s : Shape) (d : Tree) (rest : List ℕ) → IsTrue (items_take_bytes s) → Fits s d
+        → length (spelling d) < 2 ^ 63 → datum_at s (spelling d ++ rest) ≡ Ok (d, rest) }
+    ensures grammar { (s : Shape) (d : Tree) (rest : List ℕ) → IsTrue (items_take_bytes s) → Fits s d
+        → length (spelling d) < 2 ^ 63 → Reads s (spelling d ++ rest) d rest }
 {}
 
 /// The JSON of a schema is read as the schema, and so is its text, where no named type stands twice; and where the

@@ -7,7 +7,7 @@ use Rattle.avro_container.specs.declared.fault.ContainerFault.{ContainerFault}
 use Rattle.avro_container.specs.declared.fault.ContainerFault.TheVariants.{Magic, Short, Meta, NoSchema, Codec, Schema, Count, Datum, Sync, Memory}
 use Rattle.avro_container.specs.declared.pairs.MetaPair.{MetaPair}
 use Rattle.avro_container.specs.declared.container.Container.{Container}
-use Rattle.avro_container.specs.Answer.{Finds}
+use Rattle.plain_types.specs.Answers.{Answers}
 use Rattle.avro_container.specs.Container.{container_of}
 use Rattle.avro_container.specs.Grammar.{ContainerOf}
 use Rattle.avro_container.proofs.Binds.{same_ok, err_no_ok}
@@ -26,11 +26,13 @@ is_memory (Count block) only = absurd (only (λ e. cc))
 is_memory (Datum block f) only = absurd (only (λ e. cc))
 is_memory (Sync block) only = absurd (only (λ e. cc))
 
-pub is_found : (bytes : List ℕ) (r : Result Container ContainerFault) → Finds (λ x. x) r (container_of bytes) → IfOk r (λ c. ContainerOf bytes c.schema c.meta c.datums)
+pub is_found : (bytes : List ℕ) (r : Result Container ContainerFault) → Answers Memory (λ x. x) r (container_of bytes)
+    → IfOk r (λ c. ContainerOf bytes c.schema c.meta c.datums)
 is_found bytes (Ok c) h = container_found bytes c.schema c.meta c.datums h
 is_found bytes (Err f) h = tt
 
-pub is_only : (bytes : List ℕ) (r : Result Container ContainerFault) → Finds (λ x. x) r (container_of bytes) → (schema : schemas.Schema) (meta : List MetaPair) (ds : List datums.Datum) → ContainerOf bytes schema meta ds
+pub is_only : (bytes : List ℕ) (r : Result Container ContainerFault) → Answers Memory (λ x. x) r (container_of bytes)
+    → (schema : schemas.Schema) (meta : List MetaPair) (ds : List datums.Datum) → ContainerOf bytes schema meta ds
     → MatchResult r (λ c. (c.schema ≡ schema) × (c.meta ≡ meta) × (c.datums ≡ ds)) (λ f. f ≡ Memory)
 is_only bytes (Ok c) h schema meta ds is =
     let same : c ≡ file schema meta ds = same_ok c (file schema meta ds) (sym h ∙ container_only bytes schema meta ds is) in

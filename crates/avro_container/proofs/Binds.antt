@@ -1,9 +1,10 @@
 -- One step of a reading after another, where the whole has an answer.
 use Rattle.std.proofs.Common.{◌≡◌, ℕ, Bool, true, false, cond, List, Result, Ok, Err, refl, ap}
+use Rattle.plain_types.specs.Steps.{◌>>=◌}
 use Rattle.avro_binary.specs.declared.fault.Spot.{Spot}
 use Rattle.avro_binary.specs.Answer as parts
 use Rattle.avro_container.specs.declared.fault.ContainerFault.{ContainerFault}
-use Rattle.avro_container.specs.Answer.{◌>>=◌, as_fault}
+use Rattle.avro_container.specs.Answer.{as_fault}
 
 abbrev pub ok : {A : Type 0} → A → Result A ContainerFault
 ok x = Ok x
@@ -18,11 +19,12 @@ pub bind_ok : {A B : Type 0} (r : Result A ContainerFault) (k : A → Result B C
 bind_ok (Ok x) k y e = (x, refl, e)
 bind_ok (Err f) k y e = absurd (err_no_ok f y e)
 
-pub part_ok : {A : Type 0} (fault : Spot → ContainerFault) (r : parts.Answer A) (x : A × List ℕ) → as_fault fault r ≡ Ok x → r ≡ Ok x
+pub part_ok : {A : Type 0} (fault : Spot → ContainerFault) (r : parts.Part A) (x : A × List ℕ) → as_fault fault r ≡ Ok x → r ≡ Ok x
 part_ok {A = A} fault (Ok x) y e = ap (λ (z : A × List ℕ). Ok z) (same_ok x y e)
 part_ok fault (Err s) y e = absurd (err_no_ok (fault s) y e)
 
-pub bind_part : {A B : Type 0} (fault : Spot → ContainerFault) (r : parts.Answer A) (k : A × List ℕ → Result B ContainerFault) (y : B) → (as_fault fault r >>= k) ≡ Ok y → (x : A × List ℕ) × (r ≡ Ok x) × (k x ≡ Ok y)
+pub bind_part : {A B : Type 0} (fault : Spot → ContainerFault) (r : parts.Part A) (k : A × List ℕ → Result B ContainerFault)
+    (y : B) → (as_fault fault r >>= k) ≡ Ok y → (x : A × List ℕ) × (r ≡ Ok x) × (k x ≡ Ok y)
 bind_part fault (Ok x) k y e = (x, refl, e)
 bind_part fault (Err s) k y e = absurd (err_no_ok (fault s) y e)
 

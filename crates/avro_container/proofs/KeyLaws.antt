@@ -31,7 +31,8 @@ none_no_some x e = cc
 same_some : (x y : List ℕ) → Some x ≡ Some y → x ≡ y
 same_some x y e = cc
 
-lacks_step : (b : Bool) (key : List ℕ) (p : MetaPair) (ps : List MetaPair) → bytes_eq p.key key ≡ b → first_of_key key p ps b ≡ None → (p.key ≢ key) × (value_of key ps ≡ None)
+lacks_step : (b : Bool) (key : List ℕ) (p : MetaPair) (ps : List MetaPair) → bytes_eq p.key key ≡ b
+    → first_of_key key p ps b ≡ None → (p.key ≢ key) × (value_of key ps ≡ None)
 lacks_step true key p ps is e = absurd (some_no_none p.value e)
 lacks_step false key p ps is e = (not_equal p.key key is, e)
 
@@ -45,7 +46,8 @@ unfolding value_of
 lacks_none key [] l = refl
 lacks_none key (p ∷ ps) l = ap (first_of_key key p ps) (tested (bytes_eq p.key key) p.key key refl l.0) ∙ lacks_none key ps l.1
 
-has_step : (b : Bool) (key value : List ℕ) (p : MetaPair) (ps : List MetaPair) → bytes_eq p.key key ≡ b → first_of_key key p ps b ≡ Some value → ((p.key ≡ key) × (p.value ≡ value)) ⊎ (value_of key ps ≡ Some value)
+has_step : (b : Bool) (key value : List ℕ) (p : MetaPair) (ps : List MetaPair) → bytes_eq p.key key ≡ b
+    → first_of_key key p ps b ≡ Some value → ((p.key ≡ key) × (p.value ≡ value)) ⊎ (value_of key ps ≡ Some value)
 has_step true key value p ps is e = inl ((bytes_eq-Decides p.key key).0 is, same_some p.value value e)
 has_step false key value p ps is e = inr e
 

@@ -1,11 +1,12 @@
-pub mod Texts
-pub mod Loops
-pub mod KeyLaws
-pub mod Binds
-pub mod MetaLaws
-pub mod BlockLaws
-pub mod FileLaws
-pub mod Answered
-pub mod Pieces
-pub mod TextLaws
-pub mod LongLaws
+mod Answered
+mod Binds
+mod BlockLaws
+pub mod CallerLemmas
+mod FileLaws
+mod KeyLaws
+mod LongLaws
+mod Loops
+mod MetaLaws
+mod Pieces
+mod TextLaws
+mod Texts

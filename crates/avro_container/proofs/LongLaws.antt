@@ -14,7 +14,8 @@ use Rattle.avro_container.specs.ContainerText.{AreMeta}
 pub long_is : (logical : Logical) → shape (schema.Long logical) ≡ long_shape
 long_is logical = ap shape (sym (schema.rolls-Long logical)) ∙ fold-roll-Schema Shape Shape level field_level (open_schema.Long logical)
 
-pub one_more_long : (ds : List datums.Datum) (z : ℤ) → AllByRecursion (Fits long_shape) ds → IsSignedOf 63 z → AllByRecursion (Fits long_shape) (ds ++ datum.Long z ∷ [])
+pub one_more_long : (ds : List datums.Datum) (z : ℤ) → AllByRecursion (Fits long_shape) ds → IsSignedOf 63 z
+    → AllByRecursion (Fits long_shape) (ds ++ datum.Long z ∷ [])
 unfolding Fits
 one_more_long [] z all lt = ((z, lt, refl), tt)
 one_more_long (d ∷ ds) z all lt = (all.0, one_more_long ds z all.1 lt)

@@ -22,12 +22,14 @@ enough {A = A} limit (suc m) (suc n) (x ∷ xs) some p q =
     ap (λ (ys : List (List A)). take limit (x ∷ xs) ∷ ys) (enough limit m n (drop limit (x ∷ xs)) some (omega arith) (omega arith))
 
 -- a first piece, and the others
-pub first_piece : {A : Type 0} (limit : ℕ) (xs : List A) → 0 < limit → 0 < length xs → pieces limit (length xs) xs ≡ take limit xs ∷ pieces limit (length (drop limit xs)) (drop limit xs)
+pub first_piece : {A : Type 0} (limit : ℕ) (xs : List A) → 0 < limit → 0 < length xs
+    → pieces limit (length xs) xs ≡ take limit xs ∷ pieces limit (length (drop limit xs)) (drop limit xs)
 unfolding pieces
 first_piece limit [] some h = absurd (omega arith)
 first_piece {A = A} limit (x ∷ xs) some h = ap (λ (ys : List (List A)). take limit (x ∷ xs) ∷ ys) (enough limit (length xs) (length (drop limit (x ∷ xs))) (drop limit (x ∷ xs)) some (shorter limit x xs some) (omega arith))
 
-pub blocks_go_on : (limit : ℕ) (ds front rest : List datums.Datum) (before now total : List ℕ) → 0 < limit → 0 < length ds → front ≡ take limit ds → rest ≡ drop limit ds → now ≡ before ++ block_text front
+pub blocks_go_on : (limit : ℕ) (ds front rest : List datums.Datum) (before now total : List ℕ) → 0 < limit → 0 < length ds
+    → front ≡ take limit ds → rest ≡ drop limit ds → now ≡ before ++ block_text front
     → before ++ blocks_text limit ds ≡ total → now ++ blocks_text limit rest ≡ total
 blocks_go_on limit ds front rest before now total some h is others written so_far =
     let whole : blocks_text limit ds ≡ block_text (take limit ds) ++ blocks_text limit (drop limit ds) = ap (λ (ps : List (List datums.Datum)). concat (map block_text ps)) (first_piece limit ds some h) in
@@ -69,7 +71,8 @@ all_dropped P zero xs h = h
 all_dropped P (suc n) [] h = tt
 all_dropped P (suc n) (x ∷ xs) h = all_dropped P n xs h.1
 
-pub all_pieces : {A : Type 0} (P : A → Type 0) (limit more : ℕ) (xs : List A) → AllByRecursion P xs → AllByRecursion (λ piece. AllByRecursion P piece) (pieces limit more xs)
+pub all_pieces : {A : Type 0} (P : A → Type 0) (limit more : ℕ) (xs : List A) → AllByRecursion P xs
+    → AllByRecursion (λ piece. AllByRecursion P piece) (pieces limit more xs)
 unfolding pieces
 all_pieces P limit zero xs h = tt
 all_pieces P limit (suc more) [] h = tt

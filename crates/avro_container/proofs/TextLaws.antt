@@ -13,12 +13,12 @@ use Rattle.avro_binary.specs.Grammar.{ReadsLong, ReadsLength, ReadsEach, Reads}
 use Rattle.avro_binary.specs.Spelling.{natural, counted, block, spelling, Fits, takes_bytes, items_take_bytes}
 use Rattle.avro_binary.specs.SchemaText.{schema_from}
 use Rattle.avro_binary.specs.SchemaData.{schema_text}
-use Rattle.avro_binary.proofs.SpellingLaws.{ReadAgain, half, even, number_again, length_again, bytes_again, text_again, each_again, items_count, block_again, after_natural, takes, datum_again, both}
+use Rattle.avro_binary.proofs.CallerLemmas.{ReadAgain, half, even, number_again, length_again, bytes_again, text_again, each_again, items_count, block_again, after_natural, takes, datum_again, both}
 use Rattle.avro_container.specs.declared.pairs.MetaPair.{MetaPair}
 use Rattle.avro_container.specs.declared.container.Container.{Container}
 use Rattle.avro_container.specs.Header.{magic}
 use Rattle.avro_container.specs.Container.{container_of}
-use Rattle.avro_container.specs.Grammar.{ReadsPair, Lacks, AreOthers, ReadsBlock, AreBlocks, ContainerOf}
+use Rattle.avro_container.specs.Grammar.{ReadsMetaPair, Lacks, AreOthers, ReadsBlock, AreBlocks, ContainerOf}
 use Rattle.avro_container.specs.ContainerText.{sync, pair_text, schema_pair, codec_pair, header_text, block_text, pieces, blocks_text, container_text, AreMeta}
 use Rattle.avro_container.proofs.FileLaws.{container_only}
 use Rattle.avro_container.proofs.Pieces.{joined_pieces, all_pieces}
@@ -28,12 +28,12 @@ use Rattle.avro_container.proofs.Pieces.{joined_pieces, all_pieces}
 abbrev HasText : MetaPair → Type 0
 HasText p = IsUtf8 p.key
 
-pair_again : ReadAgain HasText ReadsPair pair_text
+pair_again : ReadAgain HasText ReadsMetaPair pair_text
 pair_again p rest utf8 short =
     let len : length (pair_text p) ≡ length (counted p.key) + length (counted p.value) = length-append (counted p.key) (counted p.value) in
     let key : length (counted p.key) < 2 ^ 63 = omega arith in
     let value : length (counted p.value) < 2 ^ 63 = omega arith in
-    subst (λ (t : List ℕ). ReadsPair t p rest) (sym (append_assoc (counted p.key) (counted p.value) rest))
+    subst (λ (t : List ℕ). ReadsMetaPair t p rest) (sym (append_assoc (counted p.key) (counted p.value) rest))
     (p.key, counted p.value ++ rest, text_again p.key (counted p.value ++ rest) utf8 key, (p.value, bytes_again p.value rest value, refl))
 
 pair_some : (p : MetaPair) → HasText p → 0 < length (pair_text p)
@@ -71,7 +71,8 @@ signed_natural n = rw (even n, half n) refl
 abbrev BlockOf : shapes.Shape → List ℕ → List datums.Datum → List ℕ → Type 0
 BlockOf shape from ds rest = ReadsBlock shape sync from ds rest
 
-block_reads : (shape : shapes.Shape) → takes_bytes shape ≡ true → items_take_bytes shape ≡ true → ReadAgain (λ ds. AllByRecursion (Fits shape) ds) (BlockOf shape) block_text
+block_reads : (shape : shapes.Shape) → takes_bytes shape ≡ true → items_take_bytes shape ≡ true
+    → ReadAgain (λ ds. AllByRecursion (Fits shape) ds) (BlockOf shape) block_text
 block_reads shape some room ds rest fits short =
     let stored : List ℕ = concat (map spelling ds) in
     let number : List ℕ = natural (length ds) in
@@ -92,7 +93,9 @@ block_reads shape some room ds rest fits short =
       all = subst (λ (t : List ℕ). ReadsEach (Reads shape) ds t []) (append-nil stored) (each_again (Fits shape) (Reads shape) spelling (datum_again shape room) ds [] fits small);
     }
 
-blocks_read : (shape : shapes.Shape) (limit : ℕ) (ds : List datums.Datum) → 0 < limit → takes_bytes shape ≡ true → items_take_bytes shape ≡ true → AllByRecursion (Fits shape) ds → length (blocks_text limit ds) < 2 ^ 63 → AreBlocks shape sync (blocks_text limit ds) ds
+blocks_read : (shape : shapes.Shape) (limit : ℕ) (ds : List datums.Datum) → 0 < limit → takes_bytes shape ≡ true
+    → items_take_bytes shape ≡ true → AllByRecursion (Fits shape) ds → length (blocks_text limit ds) < 2 ^ 63
+    → AreBlocks shape sync (blocks_text limit ds) ds
 blocks_read shape limit ds positive some room fits short =
     let ps : List (List datums.Datum) = pieces limit (length ds) ds in (
       ps,
@@ -112,7 +115,9 @@ sync_length = refl
 own_differ : codes "avro.codec" ≡ codes "avro.schema" → ⊥
 own_differ e = cc
 
-text_is_of : (c : Container) → AllByRecursion (Fits (shapes.shape c.schema)) c.datums → AreMeta c.meta → schema_from (schema_text c.schema) ≡ Ok c.schema → takes_bytes (shapes.shape c.schema) ≡ true → items_take_bytes (shapes.shape c.schema) ≡ true
+text_is_of : (c : Container) → AllByRecursion (Fits (shapes.shape c.schema)) c.datums → AreMeta c.meta
+    → schema_from (schema_text c.schema) ≡ Ok c.schema → takes_bytes (shapes.shape c.schema) ≡ true
+    → items_take_bytes (shapes.shape c.schema) ≡ true
     → length (container_text c) < 2 ^ 63 → ContainerOf (container_text c) c.schema c.meta c.datums
 text_is_of c fits meta reads some room short =
     let pairs : List MetaPair = own c.schema c.meta in
@@ -129,7 +134,7 @@ text_is_of c fits meta reads some room short =
       sync = sync;
       blocks = blocks;
       starts = file_parts magic head sync blocks;
-      metadata = block_again HasText ReadsPair pair_text pair_again pair_some pairs (sync ++ blocks) (own_texts, (own_codec, meta.texts)) head_small;
+      metadata = block_again HasText ReadsMetaPair pair_text pair_again pair_some pairs (sync ++ blocks) (own_texts, (own_codec, meta.texts)) head_small;
       keys = ((own_differ, meta.no_schema), (meta.no_codec, meta.distinct));
       plain = inr (inr (inl (refl, refl)));
       schema_text = (schema_text c.schema, inl (refl, refl), reads);
@@ -138,6 +143,8 @@ text_is_of c fits meta reads some room short =
       all = blocks_read (shapes.shape c.schema) 1000 c.datums (omega arith) some room fits blocks_small;
     }
 
-pub text_read_again : (c : Container) → AllByRecursion (Fits (shapes.shape c.schema)) c.datums → AreMeta c.meta → schema_from (schema_text c.schema) ≡ Ok c.schema → takes_bytes (shapes.shape c.schema) ≡ true → items_take_bytes (shapes.shape c.schema) ≡ true
+pub text_read_again : (c : Container) → AllByRecursion (Fits (shapes.shape c.schema)) c.datums → AreMeta c.meta
+    → schema_from (schema_text c.schema) ≡ Ok c.schema → takes_bytes (shapes.shape c.schema) ≡ true
+    → items_take_bytes (shapes.shape c.schema) ≡ true
     → length (container_text c) < 2 ^ 63 → container_of (container_text c) ≡ Ok c
 text_read_again c fits meta reads some room short = container_only (container_text c) c.schema c.meta c.datums (text_is_of c fits meta reads some room short)

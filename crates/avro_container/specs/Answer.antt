@@ -1,5 +1,5 @@
 -- How a part of a container is read: what it is, or the first fault of the file.
-use Rattle.std.specs.Prelude.{◌≡◌, ◌≢◌, ℕ, ◌-◌, List, Result, Ok, Err}
+use Rattle.std.specs.Prelude.{ℕ, ◌-◌, List, Result, Ok, Err}
 use Rattle.avro_binary.specs.declared.fault.FaultKind as kinds
 use Rattle.avro_binary.specs.declared.fault.FaultKind.TheVariants as kind
 use Rattle.avro_binary.specs.declared.fault.Spot as spots
@@ -8,16 +8,6 @@ use Rattle.avro_binary.specs.declared.fault.Stop.TheVariants as stop
 use Rattle.avro_binary.specs.Answer as parts
 use Rattle.avro_container.specs.declared.fault.ContainerFault.{ContainerFault}
 use Rattle.avro_container.specs.declared.fault.ContainerFault.TheVariants.{Short, Meta, Count, Memory}
-
-infixl 10 ◌>>=◌
-abbrev pub ◌>>=◌ : {A B : Type 0} → Result A ContainerFault → (A → Result B ContainerFault) → Result B ContainerFault
-(Ok x) >>= f = f x
-(Err e) >>= f = Err e
-
--- What a function returned is what the definition gives, unless memory ran out.
-abbrev pub Finds : {X Y : Type 0} → (X → Y) → Result X ContainerFault → Result Y ContainerFault → Type 0
-Finds view (Ok x) wanted = wanted ≡ Ok (view x)
-Finds view (Err f) wanted = f ≢ Memory → wanted ≡ Err f
 
 -- A part of the metadata that ends early is short, and any other fault is of the metadata, at its place.
 abbrev pub head_kind : kinds.FaultKind → ℕ → ContainerFault
@@ -52,6 +42,6 @@ block_stopped whole block stop.Memory = Memory
 block_stopped whole block (stop.At s) = block_fault whole block s
 
 -- a part, with its fault as one of the file
-abbrev pub as_fault : {A : Type 0} → (spots.Spot → ContainerFault) → parts.Answer A → Result (A × List ℕ) ContainerFault
+abbrev pub as_fault : {A : Type 0} → (spots.Spot → ContainerFault) → parts.Part A → Result (A × List ℕ) ContainerFault
 as_fault fault (Ok x) = Ok x
 as_fault fault (Err s) = Err (fault s)

@@ -2,6 +2,7 @@
 -- header's sync bytes.
 use Rattle.std.specs.Prelude.{ℕ, ℤ, pos, negsuc, List, length, take, drop, Option, Some, None, Result, Ok, Err, nat_le, ◌==◌, if◌then◌else◌}
 use Rattle.std.specs.Str.{bytes_eq}
+use Rattle.plain_types.specs.Steps.{◌>>=◌}
 use Rattle.avro_binary.specs.declared.datum.Datum as datums
 use Rattle.avro_binary.specs.declared.fault.Spot as spots
 use Rattle.avro_binary.specs.Number.{long_at, length_at, front_at}
@@ -10,7 +11,7 @@ use Rattle.avro_binary.specs.Reading.{datum_at, items_at}
 use Rattle.avro_binary.specs.Fault.{fault_of}
 use Rattle.avro_container.specs.declared.fault.ContainerFault.{ContainerFault}
 use Rattle.avro_container.specs.declared.fault.ContainerFault.TheVariants.{Count, Datum, Sync}
-use Rattle.avro_container.specs.Answer.{◌>>=◌, as_fault, block_fault}
+use Rattle.avro_container.specs.Answer.{as_fault, block_fault}
 
 -- how many datums a block has: a count that is neither negative nor above the size
 abbrev pub counted : ℤ → ℕ → Option ℕ

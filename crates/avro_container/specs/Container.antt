@@ -1,11 +1,11 @@
 -- An object container file (Avro 1.11.1, 'Object Container Files'): its header, and then block by block.
 use Rattle.std.specs.Prelude.{ℕ, zero, suc, ◌+◌, List, [], ◌∷◌, ◌++◌, length, Result, Ok, Err}
+use Rattle.plain_types.specs.Steps.{◌>>=◌}
 use Rattle.avro_binary.specs.declared.datum.Datum as datums
 use Rattle.avro_binary.specs.Shape as shapes
 use Rattle.avro_container.specs.declared.fault.ContainerFault.{ContainerFault}
 use Rattle.avro_container.specs.declared.fault.ContainerFault.TheVariants.{Count}
 use Rattle.avro_container.specs.declared.container.Container.{Container}
-use Rattle.avro_container.specs.Answer.{◌>>=◌}
 use Rattle.avro_container.specs.Header.{header_of}
 use Rattle.avro_container.specs.Block.{block_at}
 

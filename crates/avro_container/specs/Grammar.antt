@@ -12,8 +12,8 @@ use Rattle.avro_container.specs.Header.{magic}
 -- ---- the metadata
 
 -- a key, which is a string, and its value, which is bytes
-abbrev pub ReadsPair : List ℕ → MetaPair → List ℕ → Type 0
-ReadsPair bytes = Then (ReadsText bytes) (λ key after. As (λ value. record { key = key; value = value }) (ReadsBytes after))
+abbrev pub ReadsMetaPair : List ℕ → MetaPair → List ℕ → Type 0
+ReadsMetaPair bytes = Then (ReadsText bytes) (λ key after. As (λ value. record { key = key; value = value }) (ReadsBytes after))
 
 -- no pair has this key
 abbrev pub Lacks : List ℕ → List MetaPair → Type 0
@@ -31,12 +31,12 @@ Distinct [] = Unit {0}
 Distinct (p ∷ ps) = Lacks p.key ps × Distinct ps
 
 -- no codec, or the codec `null`
-abbrev pub IsPlain : List MetaPair → Type 0
-IsPlain pairs = Lacks (codes "avro.codec") pairs ⊎ Has (codes "avro.codec") (codes "null") pairs
+abbrev pub IsUncompressed : List MetaPair → Type 0
+IsUncompressed pairs = Lacks (codes "avro.codec") pairs ⊎ Has (codes "avro.codec") (codes "null") pairs
 
 -- a schema, in JSON
-abbrev pub HasSchema : List MetaPair → schemas.Schema → Type 0
-HasSchema pairs schema = (text : List ℕ) × Has (codes "avro.schema") text pairs × (schema_from text ≡ Ok schema)
+abbrev pub HasWrittenSchema : List MetaPair → schemas.Schema → Type 0
+HasWrittenSchema pairs schema = (text : List ℕ) × Has (codes "avro.schema") text pairs × (schema_from text ≡ Ok schema)
 
 -- a pair that the container itself has
 abbrev pub IsOwn : MetaPair → Type 0
@@ -72,10 +72,10 @@ pub record ContainerOf (bytes : List ℕ) (schema : schemas.Schema) (meta : List
   pub sync : List ℕ
   pub blocks : List ℕ
   pub starts : bytes ≡ magic ++ header
-  pub metadata : ReadsAll ReadsPair header pairs (sync ++ blocks)
+  pub metadata : ReadsAll ReadsMetaPair header pairs (sync ++ blocks)
   pub keys : Distinct pairs
-  pub plain : IsPlain pairs
-  pub schema_text : HasSchema pairs schema
+  pub plain : IsUncompressed pairs
+  pub schema_text : HasWrittenSchema pairs schema
   pub others : AreOthers pairs meta
   pub sixteen : length sync ≡ 16
   pub all : AreBlocks (shapes.shape schema) sync blocks ds

@@ -1,6 +1,7 @@
 -- The header of a container (Avro 1.11.1, 'Object Container Files').
 use Rattle.std.specs.Prelude.{ℕ, List, [], ◌∷◌, length, take, drop, Option, Some, None, Result, Ok, Err, codes, if◌then◌else◌}
 use Rattle.std.specs.Str.{bytes_eq}
+use Rattle.plain_types.specs.Steps.{◌>>=◌}
 use Rattle.avro_binary.specs.declared.schema.Schema as schemas
 use Rattle.avro_binary.specs.declared.schema_fault.SchemaFault as schema_faults
 use Rattle.avro_binary.specs.Number.{front_at}
@@ -9,7 +10,7 @@ use Rattle.avro_container.specs.declared.fault.ContainerFault.{ContainerFault}
 use Rattle.avro_container.specs.declared.fault.ContainerFault.TheVariants.{Magic, NoSchema, Codec, Schema}
 use Rattle.avro_container.specs.declared.pairs.MetaPair.{MetaPair}
 use Rattle.avro_container.specs.declared.header.Header.{Header}
-use Rattle.avro_container.specs.Answer.{◌>>=◌, as_fault, head_fault}
+use Rattle.avro_container.specs.Answer.{as_fault, head_fault}
 use Rattle.avro_container.specs.Pairs.{value_of, map_at, others}
 
 -- the first four bytes of a container

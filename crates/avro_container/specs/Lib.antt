@@ -1,7 +1,7 @@
 pub mod Answer
-pub mod Pairs
-pub mod Header
 pub mod Block
 pub mod Container
-pub mod Grammar
 pub mod ContainerText
+pub mod Grammar
+pub mod Header
+pub mod Pairs

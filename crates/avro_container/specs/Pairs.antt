@@ -1,11 +1,12 @@
 -- The metadata of a header: a map from text to bytes, whose keys are distinct (Avro 1.11.1, 'Object Container Files').
 use Rattle.std.specs.Prelude.{ℕ, zero, suc, ◌-◌, Bool, List, [], ◌∷◌, ◌++◌, length, Option, Some, None, is_some, Result, Ok, Err, ◌==◌, ◌||◌, codes, if◌then◌else◌}
 use Rattle.std.specs.Str.{bytes_eq}
+use Rattle.plain_types.specs.Steps.{◌>>=◌}
 use Rattle.avro_binary.specs.Number.{text_at, bytes_at, count_at}
 use Rattle.avro_container.specs.declared.fault.ContainerFault.{ContainerFault}
 use Rattle.avro_container.specs.declared.fault.ContainerFault.TheVariants.{Short, Meta}
 use Rattle.avro_container.specs.declared.pairs.MetaPair.{MetaPair}
-use Rattle.avro_container.specs.Answer.{◌>>=◌, as_fault, head_fault}
+use Rattle.avro_container.specs.Answer.{as_fault, head_fault}
 
 -- the value of a key
 unfoldable pub value_of : List ℕ → List MetaPair → Option (List ℕ)

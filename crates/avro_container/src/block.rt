@@ -3,7 +3,8 @@
 ghost use Rattle.std.specs.Prelude.{◌≡◌, length, take, drop};
 ghost use Rattle.std.specs.Str.{bytes_eq};
 ghost use Rattle.avro_binary.specs.Shape.{shape};
-ghost use Rattle.avro_container.specs.Answer.{Finds, block_stopped};
+ghost use Rattle.avro_container.specs.Answer.{block_stopped};
+ghost use Rattle.plain_types.specs.Answers.{Answers};
 ghost use Rattle.avro_container.specs.Block.{Stored as Told, counted, data_at, datums_of, block_at};
 
 use crate::fault::{ContainerFault, block_fault};
@@ -28,7 +29,7 @@ fn stopped(whole: usize, block: usize, stop: Stop) -> ContainerFault
 
 #[tactic(auto, unfolding(crate::specs::Block::data_at))]
 fn data_at(whole: usize, block: usize, bytes: &[u8]) -> Result<(Stored, &[u8]), ContainerFault>
-    ensures { Finds (λ x. (record { count = x.0.count; bytes = x.0.bytes.now }, x.1.now)) result (data_at whole block bytes.now) }
+    ensures { Answers ContainerFault.Memory (λ x. (record { count = x.0.count; bytes = x.0.bytes.now }, x.1.now)) result (data_at whole block bytes.now) }
 {
     let (count, rest) = match long_at(bytes) {
         Ok(found) => found,
@@ -62,7 +63,7 @@ fn datums_of(
     count: Option<u64>,
     bytes: &[u8],
 ) -> Result<Vec<Datum>, ContainerFault>
-    ensures { Finds (λ x. x.items) result (datums_of (shape schema.now) block count bytes.now) }
+    ensures { Answers ContainerFault.Memory (λ x. x.items) result (datums_of (shape schema.now) block count bytes.now) }
 {
     let Some(count) = count else {
         return Err(ContainerFault::Count(block));
@@ -111,7 +112,7 @@ pub fn next_block<'a>(
     block: usize,
     bytes: &'a [u8],
 ) -> Result<(Vec<Datum>, &'a [u8]), ContainerFault>
-    ensures { Finds (λ x. (x.0.items, x.1.now)) result (block_at (shape schema.now) sync.now whole block bytes.now) }
+    ensures { Answers ContainerFault.Memory (λ x. (x.0.items, x.1.now)) result (block_at (shape schema.now) sync.now whole block bytes.now) }
 {
     let (stored, rest) = data_at(whole, block, bytes)?;
     let count = counted(stored.count, stored.bytes.len());

@@ -2,7 +2,7 @@ ghost use Rattle.std.specs.Prelude.{◌≡◌, ◌↔◌, List as Seq, ℕ, [], 
 ghost use Rattle.avro_binary.specs.declared.datum.Datum.{Datum as Tree};
 ghost use Rattle.avro_binary.specs.declared.schema.Schema.{Schema as Types};
 ghost use Rattle.avro_binary.specs.Shape.{shape};
-ghost use Rattle.avro_container.specs.Answer.{Finds};
+ghost use Rattle.plain_types.specs.Answers.{Answers};
 ghost use Rattle.avro_container.specs.Container.{blocks_at, container_of};
 ghost use Rattle.avro_container.specs.Grammar.{ContainerOf};
 
@@ -30,7 +30,7 @@ fn blocks_at(
     whole: usize,
     bytes: &[u8],
 ) -> Result<Vec<Datum>, ContainerFault>
-    ensures { Finds (λ x. x.items) result (blocks_at (shape schema.now) sync.now whole (length bytes.now) 0 [] bytes.now) }
+    ensures { Answers ContainerFault.Memory (λ x. x.items) result (blocks_at (shape schema.now) sync.now whole (length bytes.now) 0 [] bytes.now) }
 {
     let mut all = Vec::new(alloc);
     let mut rest = bytes;
@@ -51,7 +51,7 @@ fn blocks_at(
 
 #[tactic(auto, unfolding(crate::specs::Container::container_of))]
 fn container_of(alloc: Global, bytes: &[u8]) -> Result<Container, ContainerFault>
-    ensures { Finds (λ x. x) result (container_of bytes.now) }
+    ensures { Answers ContainerFault.Memory (λ x. x) result (container_of bytes.now) }
 {
     let (header, rest) = read_header(alloc, bytes)?;
     let Header { schema, meta, sync } = header;
@@ -72,7 +72,7 @@ pub fn read_container(alloc: Global, bytes: &[u8]) -> Result<Container, Containe
     ensures only { (schema : Types) (meta : Seq MetaPair) (datums : Seq Tree) → ContainerOf bytes.now schema meta datums →
         MatchResult result (λ c. (c.schema ≡ schema) × (c.meta ≡ meta) × (c.datums ≡ datums)) (λ f. f ≡ ContainerFault.Memory) }
     // Which answer it is, as a function computes it.
-    ensures exact { Finds (λ x. x) result (container_of bytes.now) }
+    ensures exact { Answers ContainerFault.Memory (λ x. x) result (container_of bytes.now) }
 {
     container_of(alloc, bytes)
 }

@@ -3,7 +3,7 @@
 ghost use Rattle.std.specs.Prelude.{◌≡◌, length, take, codes};
 ghost use Rattle.std.specs.Str.{bytes_eq};
 ghost use Rattle.avro_binary.specs.SchemaText.{schema_from};
-ghost use Rattle.avro_container.specs.Answer.{Finds};
+ghost use Rattle.plain_types.specs.Answers.{Answers};
 ghost use Rattle.avro_container.specs.Header.{magic, schema_in, schema_by, header_from, header_of};
 
 use crate::fault::ContainerFault;
@@ -23,7 +23,7 @@ pub struct Header {
 }
 
 fn schema_of(alloc: Global, text: &[u8]) -> Result<Schema, ContainerFault>
-    ensures { Finds (λ x. x) result (schema_in (schema_from text.now)) }
+    ensures { Answers ContainerFault.Memory (λ x. x) result (schema_in (schema_from text.now)) }
 {
     match read_schema(alloc, text) {
         Ok(schema) => Ok(schema),
@@ -40,7 +40,7 @@ fn is_null(name: &[u8]) -> bool
 
 #[tactic(auto, unfolding(crate::specs::Header::schema_by))]
 fn schema_by(alloc: Global, pairs: &[MetaPair]) -> Result<Schema, ContainerFault>
-    ensures { Finds (λ x. x) result (schema_by pairs.now) }
+    ensures { Answers ContainerFault.Memory (λ x. x) result (schema_by pairs.now) }
 {
     let Some(text) = value_of(b"avro.schema", pairs) else {
         return Err(ContainerFault::NoSchema);
@@ -55,7 +55,7 @@ fn schema_by(alloc: Global, pairs: &[MetaPair]) -> Result<Schema, ContainerFault
 
 #[tactic(auto, unfolding(crate::specs::Header::header_from))]
 fn header_from(alloc: Global, whole: usize, bytes: &[u8]) -> Result<(Header, &[u8]), ContainerFault>
-    ensures { Finds (λ x. (x.0, x.1.now)) result (header_from whole bytes.now) }
+    ensures { Answers ContainerFault.Memory (λ x. (x.0, x.1.now)) result (header_from whole bytes.now) }
 {
     let (pairs, rest) = map_at(alloc, whole, bytes)?;
     let (sync, rest) = match front_at(16, rest) {
@@ -81,7 +81,7 @@ fn is_container(bytes: &[u8]) -> bool
 /// The header of a container, and the blocks after it.
 #[tactic(auto, unfolding(crate::specs::Header::header_of))]
 pub fn read_header(alloc: Global, bytes: &[u8]) -> Result<(Header, &[u8]), ContainerFault>
-    ensures { Finds (λ x. (x.0, x.1.now)) result (header_of bytes.now) }
+    ensures { Answers ContainerFault.Memory (λ x. (x.0, x.1.now)) result (header_of bytes.now) }
 {
     if is_container(bytes) {
         header_from(alloc, bytes.len(), &bytes[4..])

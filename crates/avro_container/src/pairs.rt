@@ -2,7 +2,8 @@
 
 ghost use Rattle.std.specs.Prelude.{◌≡◌, ◌++◌, ◌∷◌, [], length, IfOk, option_map};
 ghost use Rattle.std.specs.Str.{bytes_eq, IsUtf8};
-ghost use Rattle.avro_container.specs.Answer.{Finds, stopped};
+ghost use Rattle.avro_container.specs.Answer.{stopped};
+ghost use Rattle.plain_types.specs.Answers.{Answers};
 ghost use Rattle.avro_container.specs.Pairs.{value_of, key_at, pair_at, pairs_at, map_at, is_own, kept, others};
 
 use crate::fault::{ContainerFault, head_fault};
@@ -66,7 +67,7 @@ fn key_at<'a>(
     before: &[MetaPair],
     bytes: &'a [u8],
 ) -> Result<(Name, &'a [u8]), ContainerFault>
-    ensures { Finds (λ x. (x.0, x.1.now)) result (key_at whole before.now bytes.now) }
+    ensures { Answers ContainerFault.Memory (λ x. (x.0, x.1.now)) result (key_at whole before.now bytes.now) }
 {
     let (key, rest) = match text_at(bytes) {
         Ok(found) => found,
@@ -85,7 +86,7 @@ fn pair_at<'a>(
     before: &[MetaPair],
     bytes: &'a [u8],
 ) -> Result<(MetaPair, &'a [u8]), ContainerFault>
-    ensures { Finds (λ x. (x.0, x.1.now)) result (pair_at whole before.now bytes.now) }
+    ensures { Answers ContainerFault.Memory (λ x. (x.0, x.1.now)) result (pair_at whole before.now bytes.now) }
 {
     let (key, rest) = key_at(alloc, whole, before, bytes)?;
     let (value, rest) = match bytes_at(rest) {
@@ -103,7 +104,7 @@ fn pairs_at(
     before: Vec<MetaPair>,
     bytes: &[u8],
 ) -> Result<(Vec<MetaPair>, &[u8]), ContainerFault>
-    ensures { Finds (λ x. (x.0.items, x.1.now)) result (pairs_at whole count before.items bytes.now) }
+    ensures { Answers ContainerFault.Memory (λ x. (x.0.items, x.1.now)) result (pairs_at whole count before.items bytes.now) }
 {
     let mut pairs = before;
     let mut rest = bytes;
@@ -121,7 +122,7 @@ pub fn map_at(
     whole: usize,
     bytes: &[u8],
 ) -> Result<(Vec<MetaPair>, &[u8]), ContainerFault>
-    ensures { Finds (λ x. (x.0.items, x.1.now)) result (map_at whole (length bytes.now) [] bytes.now) }
+    ensures { Answers ContainerFault.Memory (λ x. (x.0.items, x.1.now)) result (map_at whole (length bytes.now) [] bytes.now) }
 {
     let mut pairs = Vec::new(alloc);
     let mut rest = bytes;

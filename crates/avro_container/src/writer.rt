@@ -35,9 +35,12 @@ pub fn write_container(alloc: Global, container: &Container) -> Result<Blob, All
 /// where it was read from a text itself.
 pub fn what_is_written_is_read()
     ensures once { (c : File) → AllByRecursion (Fits (shape c.schema)) c.datums → AreMeta c.meta → IsTrue (has_text c.schema)
-        → IsTrue (takes_bytes (shape c.schema)) → IsTrue (items_take_bytes (shape c.schema)) → length (container_text c) < 2 ^ 63 → container_of (container_text c) ≡ Ok c }
+        → IsTrue (takes_bytes (shape c.schema)) → IsTrue (items_take_bytes (shape c.schema)) → length (container_text c) < 2 ^ 63
+        → container_of (container_text c) ≡ Ok c }
     ensures again { (c : File) (text : List ℕ) → AllByRecursion (Fits (shape c.schema)) c.datums → AreMeta c.meta → schema_from text ≡ Ok c.schema
-        → IsTrue (takes_bytes (shape c.schema)) → IsTrue (items_take_bytes (shape c.schema)) → length (container_text c) < 2 ^ 63 → container_of (container_text c) ≡ Ok c }
+        → IsTrue (takes_bytes (shape c.schema)) → IsTrue (items_take_bytes (shape c.schema)) → length (container_text c) < 2 ^ 63
+        → container_of (container_text c) ≡ Ok c }
     ensures any { (c : File) → AllByRecursion (Fits (shape c.schema)) c.datums → AreMeta c.meta → schema_from (schema_text c.schema) ≡ Ok c.schema
-        → IsTrue (takes_bytes (shape c.schema)) → IsTrue (items_take_bytes (shape c.schema)) → length (container_text c) < 2 ^ 63 → container_of (container_text c) ≡ Ok c }
+        → IsTrue (takes_bytes (shape c.schema)) → IsTrue (items_take_bytes (shape c.schema)) → length (container_text c) < 2 ^ 63
+        → container_of (container_text c) ≡ Ok c }
 {}

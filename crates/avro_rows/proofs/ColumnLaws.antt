@@ -19,18 +19,21 @@ use Rattle.avro_rows.specs.Rows.{values_of, value_at, row_from, rows_from, rows_
 abbrev behind : {A : Type 0} → List A → Result (List A) RowFault → Result (List A) RowFault
 behind front read = read >>= λ xs. Ok (front ++ xs)
 
-step_behind : {A B : Type 0} (front : List A) (first : Result B RowFault) (f g : B → Result (List A) RowFault) → ((b : B) → f b ≡ behind front (g b)) → (first >>= f) ≡ behind front (first >>= g)
+step_behind : {A B : Type 0} (front : List A) (first : Result B RowFault) (f g : B → Result (List A) RowFault)
+    → ((b : B) → f b ≡ behind front (g b)) → (first >>= f) ≡ behind front (first >>= g)
 step_behind front (Ok b) f g h = h b
 step_behind front (Err e) f g h = refl
 
-row_behind : (row : ℕ) (values : List Datum) (front earlier : List Value) (sources : List Source) → row_from row values (front ++ earlier) sources ≡ behind front (row_from row values earlier sources)
+row_behind : (row : ℕ) (values : List Datum) (front earlier : List Value) (sources : List Source)
+    → row_from row values (front ++ earlier) sources ≡ behind front (row_from row values earlier sources)
 unfolding row_from
 row_behind row values front earlier [] = refl
 row_behind row values front earlier (source ∷ sources) =
     step_behind front (value_at source row values) (λ v. row_from row values ((front ++ earlier) ++ v ∷ []) sources) (λ v. row_from row values (earlier ++ v ∷ []) sources)
     (λ v. ap (λ (xs : List Value). row_from row values xs sources) (append_assoc front earlier (v ∷ [])) ∙ row_behind row values front (earlier ++ v ∷ []) sources)
 
-sources_behind : (fields : List Field) (front earlier : List Source) (columns : List Column) → sources_from fields (front ++ earlier) columns ≡ behind front (sources_from fields earlier columns)
+sources_behind : (fields : List Field) (front earlier : List Source) (columns : List Column)
+    → sources_from fields (front ++ earlier) columns ≡ behind front (sources_from fields earlier columns)
 unfolding sources_from
 sources_behind fields front earlier [] = refl
 sources_behind fields front earlier (column ∷ columns) =
@@ -39,7 +42,8 @@ sources_behind fields front earlier (column ∷ columns) =
 
 -- ---- rows beside others
 
-beside_more : (rows others : List (List Value)) (row other : List Value) → length rows ≡ length others → beside rows others ++ (row ++ other) ∷ [] ≡ beside (rows ++ row ∷ []) (others ++ other ∷ [])
+beside_more : (rows others : List (List Value)) (row other : List Value) → length rows ≡ length others
+    → beside rows others ++ (row ++ other) ∷ [] ≡ beside (rows ++ row ∷ []) (others ++ other ∷ [])
 beside_more [] [] row other e = refl
 beside_more [] (y ∷ ys) row other e = absurd (omega arith)
 beside_more (x ∷ xs) [] row other e = absurd (omega arith)
@@ -55,7 +59,8 @@ none_after None = refl
 none_after (Some rows) = refl
 
 -- a source beside others, record by record
-record_beside : (source : Source) (sources : List Source) (rows others : List (List Value)) (datums : List Datum) (first : Result Value RowFault) (rest : Result (List Value) RowFault)
+record_beside : (source : Source) (sources : List Source) (rows others : List (List Value)) (datums : List Datum)
+    (first : Result Value RowFault) (rest : Result (List Value) RowFault)
     → length rows ≡ length others
     → ((row other : List Value) → read_of (rows_from (source ∷ sources) (beside (rows ++ row ∷ []) (others ++ other ∷ [])) datums) ≡ both_read (read_of (rows_from (source ∷ []) (rows ++ row ∷ []) datums)) (read_of (rows_from sources (others ++ other ∷ []) datums)))
     → read_of ((first >>= λ v. behind (v ∷ []) rest) >>= λ row. rows_from (source ∷ sources) (beside rows others ++ row ∷ []) datums) ≡ both_read (read_of ((first >>= λ v. Ok (v ∷ [])) >>= λ row. rows_from (source ∷ []) (rows ++ row ∷ []) datums)) (read_of (rest >>= λ row. rows_from sources (others ++ row ∷ []) datums))
@@ -63,10 +68,13 @@ record_beside source sources rows others datums (Err e) rest same step = refl
 record_beside source sources rows others datums (Ok v) (Err e) same step = none_after (read_of (rows_from (source ∷ []) (rows ++ (v ∷ []) ∷ []) datums))
 record_beside source sources rows others datums (Ok v) (Ok row) same step = ap (λ (xs : List (List Value)). read_of (rows_from (source ∷ sources) xs datums)) (beside_more rows others (v ∷ []) row same) ∙ step (v ∷ []) row
 
-row_splits : (row : ℕ) (values : List Datum) (source : Source) (sources : List Source) → row_from row values [] (source ∷ sources) ≡ (value_at source row values >>= λ v. behind (v ∷ []) (row_from row values [] sources))
+row_splits : (row : ℕ) (values : List Datum) (source : Source) (sources : List Source)
+    → row_from row values [] (source ∷ sources) ≡ (value_at source row values >>= λ v. behind (v ∷ [])
+    (row_from row values [] sources))
 unfolding row_from
 row_splits row values source sources = same_steps (value_at source row values) where
-  same_steps : (first : Result Value RowFault) → (first >>= λ v. row_from row values (v ∷ []) sources) ≡ (first >>= λ v. behind (v ∷ []) (row_from row values [] sources))
+  same_steps : (first : Result Value RowFault)
+      → (first >>= λ v. row_from row values (v ∷ []) sources) ≡ (first >>= λ v. behind (v ∷ []) (row_from row values [] sources))
   same_steps (Ok v) = row_behind row values (v ∷ []) [] sources
   same_steps (Err e) = refl
 
@@ -74,7 +82,10 @@ row_alone : (row : ℕ) (values : List Datum) (source : Source) → row_from row
 unfolding row_from
 row_alone row values source = refl
 
-rows_split : (source : Source) (sources : List Source) (rows others : List (List Value)) (datums : List Datum) → length rows ≡ length others → read_of (rows_from (source ∷ sources) (beside rows others) datums) ≡ both_read (read_of (rows_from (source ∷ []) rows datums)) (read_of (rows_from sources others datums))
+rows_split : (source : Source) (sources : List Source) (rows others : List (List Value)) (datums : List Datum)
+    → length rows ≡ length others → read_of (rows_from (source ∷ sources)
+    (beside rows others) datums) ≡ both_read (read_of (rows_from (source ∷ []) rows datums))
+    (read_of (rows_from sources others datums))
 unfolding rows_from
 rows_split source sources rows others [] e = refl
 rows_split source sources rows others (datum ∷ datums) e =
@@ -86,10 +97,13 @@ rows_split source sources rows others (datum ∷ datums) e =
 
 -- ---- columns
 
-sources_splits : (fields : List Field) (column : Column) (columns : List Column) → sources_from fields [] (column ∷ columns) ≡ (source_from column 0 fields >>= λ s. behind (s ∷ []) (sources_from fields [] columns))
+sources_splits : (fields : List Field) (column : Column) (columns : List Column)
+    → sources_from fields [] (column ∷ columns) ≡ (source_from column 0 fields >>= λ s. behind (s ∷ [])
+    (sources_from fields [] columns))
 unfolding sources_from
 sources_splits fields column columns = same_steps (source_from column 0 fields) where
-  same_steps : (first : Result Source RowFault) → (first >>= λ s. sources_from fields (s ∷ []) columns) ≡ (first >>= λ s. behind (s ∷ []) (sources_from fields [] columns))
+  same_steps : (first : Result Source RowFault)
+      → (first >>= λ s. sources_from fields (s ∷ []) columns) ≡ (first >>= λ s. behind (s ∷ []) (sources_from fields [] columns))
   same_steps (Ok s) = sources_behind fields (s ∷ []) [] columns
   same_steps (Err e) = refl
 
@@ -97,13 +111,17 @@ sources_alone : (fields : List Field) (column : Column) → sources_from fields 
 unfolding sources_from
 sources_alone fields column = refl
 
-split_by : (datums : List Datum) (first : Result Source RowFault) (rest : Result (List Source) RowFault) → read_of ((first >>= λ s. behind (s ∷ []) rest) >>= λ sources. rows_from sources [] datums) ≡ both_read (read_of ((first >>= λ s. Ok (s ∷ [])) >>= λ sources. rows_from sources [] datums)) (read_of (rest >>= λ sources. rows_from sources [] datums))
+split_by : (datums : List Datum) (first : Result Source RowFault) (rest : Result (List Source) RowFault)
+    → read_of ((first >>= λ s. behind (s ∷ []) rest) >>= λ sources. rows_from sources [] datums) ≡ both_read (read_of ((first >>= λ s. Ok (s ∷ [])) >>= λ sources. rows_from sources [] datums))
+    (read_of (rest >>= λ sources. rows_from sources [] datums))
 split_by datums (Err e) rest = refl
 split_by datums (Ok s) (Err e) = none_after (read_of (rows_from (s ∷ []) [] datums))
 split_by datums (Ok s) (Ok sources) = rows_split s sources [] [] datums refl
 
 -- a column is read beside others as it is read alone
-pub columns_split : (container : Container) (column : Column) (columns : List Column) → read_of (rows_of container (column ∷ columns)) ≡ both_read (read_of (rows_of container (column ∷ []))) (read_of (rows_of container columns))
+pub columns_split : (container : Container) (column : Column) (columns : List Column)
+    → read_of (rows_of container (column ∷ columns)) ≡ both_read (read_of (rows_of container (column ∷ [])))
+    (read_of (rows_of container columns))
 unfolding rows_of
 columns_split container column columns =
     let fields = fields_of container.schema in
@@ -136,7 +154,8 @@ unfolding rows_of sources_from
 no_columns container = none_read container [] container.datums
 
 -- a list of columns is read exactly where each of them is read alone
-pub read_where_each_is : (container : Container) (columns : List Column) → is_ok (rows_of container columns) ≡ list_all (λ column. is_ok (rows_of container (column ∷ []))) columns
+pub read_where_each_is : (container : Container) (columns : List Column)
+    → is_ok (rows_of container columns) ≡ list_all (λ column. is_ok (rows_of container (column ∷ []))) columns
 read_where_each_is container [] = no_columns container
 read_where_each_is container (column ∷ columns) =
     let one = read_of (rows_of container (column ∷ [])) in

@@ -1,3 +1,3 @@
-pub mod ColumnLaws
-pub mod RowLaws
-pub mod Stepwise
+pub mod CallerLemmas
+mod ColumnLaws
+mod RowLaws

@@ -22,7 +22,7 @@ use Rattle.kind_values.specs.KindValues.{of_kind}
 use Rattle.avro_rows.specs.DatumValue.{content_of, value_of, inside, is_null_datum}
 use Rattle.avro_rows.specs.Sources.{has_id, carried, source_from, sources_from, fields_of}
 use Rattle.avro_rows.specs.Rows.{values_of, null_at, held_at, value_at, row_from, rows_from, rows_of}
-use Rattle.avro_rows.proofs.Stepwise.{two_steps, one_value}
+use Rattle.plain_types.proofs.CallerLemmas.{two_steps, one_value}
 
 -- ---- a source is its column's
 
@@ -30,15 +30,21 @@ pub record IsOf (column : Column) (source : Source) : Type 0 where
   pub kind : source.kind ≡ column.kind
   pub required : source.required ≡ column.required
 
-carried_by : (column : Column) (place : ℕ) (b : Bool) (source : Source) → cond b (Ok (record { id = column.id; kind = column.kind; required = column.required; place = Some place })) (Err (fault.Kind column.id)) ≡ Ok source → IsOf column source
+carried_by : (column : Column) (place : ℕ) (b : Bool) (source : Source)
+    → cond b (Ok (record { id = column.id; kind = column.kind; required = column.required; place = Some place }))
+    (Err (fault.Kind column.id)) ≡ Ok source → IsOf column source
 carried_by column place true source h = record { kind = cc; required = cc }
 carried_by column place false source h = absurd cc
 
-absent_by : (column : Column) (b : Bool) (source : Source) → cond b (Err (fault.NoColumn column.id)) (Ok (record { id = column.id; kind = column.kind; required = column.required; place = None })) ≡ Ok source → IsOf column source
+absent_by : (column : Column) (b : Bool) (source : Source) → cond b (Err (fault.NoColumn column.id))
+    (Ok (record { id = column.id; kind = column.kind; required = column.required; place = None })) ≡ Ok source
+    → IsOf column source
 absent_by column true source h = absurd cc
 absent_by column false source h = record { kind = cc; required = cc }
 
-found_by : (column : Column) (b : Bool) (first rest : Result Source RowFault) (source : Source) → (first ≡ Ok source → IsOf column source) → (rest ≡ Ok source → IsOf column source) → cond b first rest ≡ Ok source → IsOf column source
+found_by : (column : Column) (b : Bool) (first rest : Result Source RowFault) (source : Source)
+    → (first ≡ Ok source → IsOf column source) → (rest ≡ Ok source → IsOf column source) → cond b first rest ≡ Ok source
+    → IsOf column source
 found_by column true first rest source one two h = one h
 found_by column false first rest source one two h = two h
 
@@ -55,7 +61,9 @@ AreOf [] (source ∷ sources) = ⊥
 AreOf (column ∷ columns) [] = ⊥
 
 -- the sources that are found stand behind the earlier ones
-pub sources_are : (fields : List Field) (earlier : List Source) (columns : List Column) (sources : List Source) → sources_from fields earlier columns ≡ Ok sources → (found : List Source) × (sources ≡ earlier ++ found) × AreOf columns found
+pub sources_are : (fields : List Field) (earlier : List Source) (columns : List Column) (sources : List Source)
+    → sources_from fields earlier columns ≡ Ok sources → (found : List Source) × (sources ≡ earlier ++ found)
+    × AreOf columns found
 unfolding sources_from
 sources_are fields earlier [] sources h = ([], one_value sources earlier (Ok earlier) h refl ∙ sym (append-nil earlier), tt)
 sources_are fields earlier (column ∷ columns) sources h =
@@ -90,7 +98,8 @@ held_value k required (value.Decimal n s) h = h
 held_value k required (value.Text bytes) h = h
 held_value k required (value.Bytes bytes) h = h
 
-null_by : (source : Source) (row : ℕ) (b : Bool) (v : Value) → source.required ≡ b → cond b (Err (fault.Null source.id row)) (Ok value.Null) ≡ Ok v → held source.kind source.required v ≡ true
+null_by : (source : Source) (row : ℕ) (b : Bool) (v : Value) → source.required ≡ b
+    → cond b (Err (fault.Null source.id row)) (Ok value.Null) ≡ Ok v → held source.kind source.required v ≡ true
 null_by source row true v e h = absurd cc
 null_by source row false v e h =
     let is : v ≡ value.Null = cc in
@@ -106,21 +115,27 @@ value_by : (k : Kind) (o : Option Value) (v : Value) → option_and_then (of_kin
 value_by k (Some w) v h = of_kind_by k w v (is_value k w) refl h
 value_by k None v h = absurd cc
 
-or_fault_by : (k : Kind) (required : Bool) (e : RowFault) (o : Option Value) (v : Value) → ((w : Value) → o ≡ Some w → is_value k w ≡ true) → or_fault e o ≡ Ok v → held k required v ≡ true
+or_fault_by : (k : Kind) (required : Bool) (e : RowFault) (o : Option Value) (v : Value)
+    → ((w : Value) → o ≡ Some w → is_value k w ≡ true) → or_fault e o ≡ Ok v → held k required v ≡ true
 or_fault_by k required e (Some w) v h g =
     let same : v ≡ w = cc in
     rw same (held_value k required w (h w refl))
 or_fault_by k required e None v h g = absurd cc
 
-held_by : (source : Source) (row : ℕ) (datum : Datum) (b : Bool) (v : Value) → cond b (null_at source row) (or_fault (fault.Range source.id row) (value_of source.kind datum)) ≡ Ok v → held source.kind source.required v ≡ true
+held_by : (source : Source) (row : ℕ) (datum : Datum) (b : Bool) (v : Value)
+    → cond b (null_at source row) (or_fault (fault.Range source.id row) (value_of source.kind datum)) ≡ Ok v
+    → held source.kind source.required v ≡ true
 held_by source row datum true v h = null_by source row source.required v refl h
 held_by source row datum false v h = or_fault_by source.kind source.required (fault.Range source.id row) (value_of source.kind datum) v (λ w. value_by source.kind (content_of source.kind (out-Datum datum)) w) h
 
-value_at_by : (source : Source) (row : ℕ) (o : Option Datum) (v : Value) → by_option o (λ datum. held_at source row (inside datum)) (null_at source row) ≡ Ok v → held source.kind source.required v ≡ true
+value_at_by : (source : Source) (row : ℕ) (o : Option Datum) (v : Value)
+    → by_option o (λ datum. held_at source row (inside datum)) (null_at source row) ≡ Ok v
+    → held source.kind source.required v ≡ true
 value_at_by source row (Some datum) v h = held_by source row (inside datum) (is_null_datum (out-Datum (inside datum))) v h
 value_at_by source row None v h = null_by source row source.required v refl h
 
-value_is : (column : Column) (source : Source) (row : ℕ) (values : List Datum) (v : Value) → IsOf column source → value_at source row values ≡ Ok v → is_held column v ≡ true
+value_is : (column : Column) (source : Source) (row : ℕ) (values : List Datum) (v : Value) → IsOf column source
+    → value_at source row values ≡ Ok v → is_held column v ≡ true
 value_is column source row values v is h =
     let e = value_at_by source row (option_and_then (slice_get values) source.place) v h in
     ap (λ k. held k column.required v) (sym is.kind) ∙ ap (λ b. held source.kind b v) (sym is.required) ∙ e
@@ -131,7 +146,9 @@ both : (a b : Bool) → a ≡ true → b ≡ true → (a && b) ≡ true
 both true b h k = k
 both false b h k = absurd cc
 
-row_is : (row : ℕ) (values : List Datum) (earlier : List Value) (columns : List Column) (sources : List Source) (all : List Value) → AreOf columns sources → row_from row values earlier sources ≡ Ok all → (more : List Value) × (all ≡ earlier ++ more) × (is_row columns more ≡ true)
+row_is : (row : ℕ) (values : List Datum) (earlier : List Value) (columns : List Column) (sources : List Source) (all : List Value)
+    → AreOf columns sources → row_from row values earlier sources ≡ Ok all → (more : List Value) × (all ≡ earlier ++ more)
+    × (is_row columns more ≡ true)
 unfolding row_from
 row_is row values earlier [] [] all are h = ([], one_value all earlier (Ok earlier) h refl ∙ sym (append-nil earlier), refl)
 row_is row values earlier [] (source ∷ sources) all are h = absurd are
@@ -141,7 +158,9 @@ row_is row values earlier (column ∷ columns) (source ∷ sources) all are h =
     let rest = row_is row values (earlier ++ s.0 ∷ []) columns sources all are.1 s.2 in
     (s.0 ∷ rest.0, rest.1 ∙ append_assoc earlier (s.0 ∷ []) rest.0, both (is_held column s.0) (is_row columns rest.0) (value_is column source row values s.0 are.0 s.1) rest.2)
 
-rows_are : (columns : List Column) (sources : List Source) (earlier : List (List Value)) (datums : List Datum) (rows : List (List Value)) → AreOf columns sources → list_all (is_row columns) earlier ≡ true → rows_from sources earlier datums ≡ Ok rows → list_all (is_row columns) rows ≡ true
+rows_are : (columns : List Column) (sources : List Source) (earlier : List (List Value)) (datums : List Datum)
+    (rows : List (List Value)) → AreOf columns sources → list_all (is_row columns) earlier ≡ true
+    → rows_from sources earlier datums ≡ Ok rows → list_all (is_row columns) rows ≡ true
 unfolding rows_from
 rows_are columns sources earlier [] rows are so_far h = rw (one_value rows earlier (Ok earlier) h refl) so_far
 rows_are columns sources earlier (datum ∷ datums) rows are so_far h =
@@ -158,13 +177,15 @@ rows_of_columns container columns rows h =
     let found = sources_are (fields_of container.schema) [] columns s.0 s.1 in
     rows_are columns found.0 [] container.datums rows found.2 refl (ap (λ sources. rows_from sources [] container.datums) (sym found.1) ∙ s.2)
 
-pub rows_by : (container : Container) (columns : List Column) (r : Result (List (List Value)) RowFault) → IfOk r (λ rows. rows_of container columns ≡ Ok rows) → IfOk r (λ rows. AreRows columns rows)
+pub rows_by : (container : Container) (columns : List Column) (r : Result (List (List Value)) RowFault)
+    → IfOk r (λ rows. rows_of container columns ≡ Ok rows) → IfOk r (λ rows. AreRows columns rows)
 rows_by container columns (Ok rows) h = rows_of_columns container columns rows h
 rows_by container columns (Err e) h = tt
 
 -- ---- a row for each datum
 
-counted : (sources : List Source) (earlier : List (List Value)) (datums : List Datum) (rows : List (List Value)) → rows_from sources earlier datums ≡ Ok rows → length rows ≡ length earlier + length datums
+counted : (sources : List Source) (earlier : List (List Value)) (datums : List Datum) (rows : List (List Value))
+    → rows_from sources earlier datums ≡ Ok rows → length rows ≡ length earlier + length datums
 unfolding rows_from
 counted sources earlier [] rows h =
     let same : length rows ≡ length earlier = ap length (one_value rows earlier (Ok earlier) h refl) in
@@ -174,7 +195,8 @@ counted sources earlier (datum ∷ datums) rows h =
     let rest : length rows ≡ length (earlier ++ s.0 ∷ []) + length datums = counted sources (earlier ++ s.0 ∷ []) datums rows s.2 in
     omega (arith, length-append earlier (s.0 ∷ []))
 
-pub rows_of_count : (container : Container) (columns : List Column) (rows : List (List Value)) → rows_of container columns ≡ Ok rows → length rows ≡ length container.datums
+pub rows_of_count : (container : Container) (columns : List Column) (rows : List (List Value))
+    → rows_of container columns ≡ Ok rows → length rows ≡ length container.datums
 unfolding rows_of
 rows_of_count container columns rows h =
     let s = two_steps (sources_from (fields_of container.schema) [] columns) (λ sources. rows_from sources [] container.datums) rows h in

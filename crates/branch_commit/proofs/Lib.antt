@@ -1,2 +1,8 @@
-pub mod Held
-pub mod Settling
+pub mod CallerLemmas
+mod Committed
+mod FalseFilter
+mod Loads
+mod PlanLaws
+mod RowsRead
+mod SameSchema
+mod Settling

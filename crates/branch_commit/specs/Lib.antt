@@ -1,1 +1,7 @@
+pub mod Committing
+pub mod Current
+pub mod Next
+pub mod Planning
+pub mod Plans
 pub mod Settled
+pub mod Validation

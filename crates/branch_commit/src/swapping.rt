@@ -38,7 +38,9 @@ pub fn swap<S: Store>(
     ensures later { S.faults store.old ≤ S.faults store.new }
     ensures store { IsErrOf result SwapFault.Store → Rose (S.faults store.old) (S.faults store.new) × (0 < S.unsettled store.new) }
     ensures unknown { IsErrOf result SwapFault.Unknown → RoseTwice (S.faults store.old) (S.faults store.new) × (2 ≤ S.unsettled store.new) }
-    ensures settled { OnOk result ((S.unsettled store.new ≡ 0) ⊎ ((S.unsettled store.new ≡ S.unsettled store.old) × (S.faults store.new ≡ S.faults store.old))) }
+    ensures memory { IsErrOf result SwapFault.Memory → (S.files store.new ≡ S.files store.old) ⊎ Rose (S.faults store.old) (S.faults store.new) }
+    ensures settled { OnOk result ((S.unsettled store.new ≡ 0) ⊎ ((S.unsettled store.new ≡ S.unsettled store.old)
+        × (S.faults store.new ≡ S.faults store.old))) }
     ensures reads { S.reads store.new ≤ bump (S.reads store.old) }
 {
     match store.swap(alloc, name, bytes) {
@@ -59,7 +61,8 @@ fn settle<S: Store>(
     ensures missing { IsErrOf result SwapFault.Store → ForSome (S.files store.old) (λ told. map.get told name.now ≡ None) }
     ensures files { S.files store.new ≡ S.files store.old }
     ensures later { S.faults store.old ≤ S.faults store.new }
-    ensures unknown { IsErrOf result SwapFault.Unknown → Rose (S.faults store.old) (S.faults store.new) × (S.unsettled store.new ≡ bump (S.unsettled store.old)) }
+    ensures unknown { IsErrOf result SwapFault.Unknown → Rose (S.faults store.old) (S.faults store.new)
+        × (S.unsettled store.new ≡ bump (S.unsettled store.old)) }
     ensures store { IsErrOf result SwapFault.Store → S.unsettled store.new ≡ S.unsettled store.old }
     ensures settled { OnOk result (S.unsettled store.new ≡ 0) }
     ensures reads { S.reads store.new ≡ bump (S.reads store.old) }

@@ -1,7 +1,7 @@
 //! Copies of entries, and of rows of manifest lists.
 ghost use Rattle.std.specs.Prelude.{◌≡◌, IfOk};
 
-use column_bounds::{ColumnStats, Stats, Summary};
+use kind_values::{ColumnStats, Stats, Summary};
 use manifest_files::{Entry, ManifestRow};
 use plain_types::{List, Text};
 use row_values::{Value, copy_row};

@@ -1,1 +1,1 @@
-pub mod OptionLemmas
+mod OptionLemmas

@@ -10,7 +10,8 @@ use Rattle.command_line.specs.Options.{rows_app, create_app, run_app}
 use Rattle.command_line.specs.Words.{both_named, both_of, option_of}
 
 -- where clap takes the words, an option has the value that it found
-pub option_of-found : (app : App) (name : List ℕ) (words : List (List ℕ)) (found : Found) → fault_of app words ≡ [] → rows_of found ≡ matches_of app words → option_of app name words ≡ first_value found name
+pub option_of-found : (app : App) (name : List ℕ) (words : List (List ℕ)) (found : Found) → fault_of app words ≡ []
+    → rows_of found ≡ matches_of app words → option_of app name words ≡ first_value found name
 option_of-found app name words found takes rows =
     subst (λ (faults : Kinds). cond (length faults == 0) (first_of name (matches_of app words)) None ≡ first_value found name) (sym takes)
     (ap (first_of name) (sym rows) ∙ sym (first_value-rows found name))
@@ -20,7 +21,9 @@ first_true true b both = refl
 first_true false b both = both
 
 -- the same, from the clauses of a parse that succeeds
-pub option_of-parsed : (app : App) (name : List ℕ) (words : List (List ℕ)) (found : Found) {Sub : Type 0} → is_simple_and_free app ≡ true → fault_of app words ≡ [] → (is_simple app ≡ true → (rows_of found ≡ matches_of app words) × Sub) → option_of app name words ≡ first_value found name
+pub option_of-parsed : (app : App) (name : List ℕ) (words : List (List ℕ)) (found : Found) {Sub : Type 0}
+    → is_simple_and_free app ≡ true → fault_of app words ≡ []
+    → (is_simple app ≡ true → (rows_of found ≡ matches_of app words) × Sub) → option_of app name words ≡ first_value found name
 option_of-parsed app name words found simple takes rows =
     option_of-found app name words found takes (rows (first_true (is_simple app) (is_free_app (built app)) simple)).0
 
@@ -40,6 +43,8 @@ unfolding run_app clap_on_literals
 simple_run_app = refl
 
 -- a table and a file that the options of a command name
-pub both_found : (app wanted : App) (file : List ℕ) (words : List (List ℕ)) (found : Found) → app ≡ wanted → ((name : List ℕ) → option_of app name words ≡ first_value found name) → both_of wanted file words ≡ both_named (first_value found (codes "table")) (first_value found file)
+pub both_found : (app wanted : App) (file : List ℕ) (words : List (List ℕ)) (found : Found) → app ≡ wanted
+    → ((name : List ℕ) → option_of app name words ≡ first_value found name)
+    → both_of wanted file words ≡ both_named (first_value found (codes "table")) (first_value found file)
 both_found app wanted file words found is has =
     ap (λ (a : App). both_of a file words) (sym is) ∙ ap (λ (t : Option (List ℕ)). both_named t (option_of app file words)) (has (codes "table")) ∙ ap (both_named (first_value found (codes "table"))) (has file)

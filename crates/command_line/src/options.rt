@@ -61,7 +61,8 @@ pub(crate) fn options_of<'a>(
     words: &'a [&'a str],
 ) -> Result<ArgMatches<'a>, WordsFault>
     requires { is_simple_and_free (app_of command) ≡ true }
-    ensures found { IfOk result (λ options. (name : List ℕ) → option_of (app_of command.entry) name (texts words.entry.now) ≡ first_value (found_of options) name) }
+    ensures found { IfOk result (λ options. (name : List ℕ)
+        → option_of (app_of command.entry) name (texts words.entry.now) ≡ first_value (found_of options) name) }
     ensures usage { IsErrOf result WordsFault.Usage → (name : List ℕ) → option_of (app_of command.entry) name (texts words.entry.now) ≡ None }
 {
     match command.try_get_matches_from(words) {

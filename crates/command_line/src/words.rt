@@ -96,8 +96,10 @@ fn read_run<'a>(alloc: Global, words: &'a [&'a str]) -> Result<Command<'a>, Word
 
 // The table and the file that the options name.
 fn both_of<'a>(options: &ArgMatches<'a>, file: &str) -> Result<(&'a str, &'a str), WordsFault>
-    ensures found { IfOk result (λ both. both_named (first_value (found_of options.now) (codes "table")) (first_value (found_of options.now) file.now) ≡ Some (both.0.now, both.1.now)) }
-    ensures usage { IsErrOf result WordsFault.Usage → both_named (first_value (found_of options.now) (codes "table")) (first_value (found_of options.now) file.now) ≡ None }
+    ensures found { IfOk result (λ both. both_named (first_value (found_of options.now) (codes "table"))
+        (first_value (found_of options.now) file.now) ≡ Some (both.0.now, both.1.now)) }
+    ensures usage { IsErrOf result WordsFault.Usage → both_named (first_value (found_of options.now) (codes "table"))
+        (first_value (found_of options.now) file.now) ≡ None }
 {
     let table = match table_of(options) {
         Ok(table) => table,

@@ -4,17 +4,18 @@ use Rattle.std.specs.Prelude.{if◌then◌else◌, int_lt, int_le}
 use Rattle.std.specs.Int.{int_max}
 use Rattle.std.specs.Ordering.{int_eq}
 use Rattle.std.proofs.lemmas.Int.{ints}
-use Rattle.file_names.specs.declared.names.Names.{Names}
+use Rattle.table_names.specs.declared.names.Names.{Names}
 use Rattle.table_metadata.specs.declared.snapshots.Snapshot.{Snapshot}
 use Rattle.table_metadata.specs.Metadata.{parts}
 use Rattle.table_metadata.specs.References.{has_snapshot}
-use Rattle.table_load.specs.declared.state.State.{State}
+use Rattle.table_state.specs.declared.state.State.{State}
 use Rattle.change_sets.specs.declared.change.ChangeSet.{ChangeSet}
-use Rattle.metadata_writer.specs.Fitting.{IsInt}
+use Rattle.iceberg_schema.specs.Widths.{IsInt}
 use Rattle.metadata_writer.specs.PartsAfter.{CanFollow}
 use Rattle.commit_builder.specs.Commits.{live_in, snapshot_in}
 use Rattle.commit_builder.specs.NextVersion.{HasNumbers}
-use Rattle.commit_builder.specs.SnapshotIds.{above, entry_snapshot, free_from, greatest, has_id, ids_of, last, next_id, snapshot_id}
+use Rattle.commit_builder.specs.SnapshotIds.{above, entry_snapshot, free_from, greatest, ids_of, last, next_id, snapshot_id}
+use Rattle.commit_manifests.specs.Sorting.{has_id}
 use Rattle.commit_builder.proofs.NewIds.{next_is_new}
 
 -- ---- the id is a positive one of 64 bits
@@ -59,7 +60,8 @@ unfolding has_id
 not_in_front id [] ys h = refl
 not_in_front id (x ∷ xs) ys h = front_by (int_eq x id) h (not_in_front id xs ys)
   where
-    front_by : (b : Bool) → (if b then true else has_id id (xs ++ ys)) ≡ false → (has_id id (xs ++ ys) ≡ false → has_id id xs ≡ false) → (if b then true else has_id id xs) ≡ false
+    front_by : (b : Bool) → (if b then true else has_id id (xs ++ ys)) ≡ false
+        → (has_id id (xs ++ ys) ≡ false → has_id id xs ≡ false) → (if b then true else has_id id xs) ≡ false
     front_by true e rest = absurd (true≢false e)
     front_by false e rest = rest e
 
@@ -68,7 +70,9 @@ unfolding has_id
 no_snapshot id [] h = refl
 no_snapshot id (s ∷ snapshots) h = snapshot_by (int_eq s.id id) h (no_snapshot id snapshots)
   where
-    snapshot_by : (b : Bool) → (if b then true else has_id id (map snapshot_id snapshots)) ≡ false → (has_id id (map snapshot_id snapshots) ≡ false → has_snapshot id snapshots ≡ false) → (b || has_snapshot id snapshots) ≡ false
+    snapshot_by : (b : Bool) → (if b then true else has_id id (map snapshot_id snapshots)) ≡ false
+        → (has_id id (map snapshot_id snapshots) ≡ false → has_snapshot id snapshots ≡ false)
+        → (b || has_snapshot id snapshots) ≡ false
     snapshot_by true e rest = absurd (true≢false e)
     snapshot_by false e rest = rest e
 

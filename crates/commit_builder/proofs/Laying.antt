@@ -8,14 +8,13 @@ use Rattle.row_values.specs.declared.partition.Spec.{Spec}
 use Rattle.row_values.specs.declared.schema.TableSchema.{TableSchema}
 use Rattle.row_values.specs.declared.value.Value.{Value}
 use Rattle.row_values.specs.declared.value.Value.TheVariants as value
-use Rattle.column_bounds.specs.declared.stats.Summary.{Summary}
+use Rattle.kind_values.specs.declared.stats.Summary.{Summary}
 use Rattle.manifest_files.specs.declared.entry.Entry.{Entry}
 use Rattle.manifest_files.specs.declared.manifest_row.ManifestContent.{ManifestContent}
 use Rattle.manifest_files.specs.declared.manifest_row.ManifestContent.TheVariants as content
 use Rattle.manifest_files.specs.declared.manifest_row.ManifestRow.{ManifestRow}
-use Rattle.manifest_rows.proofs.Conjunction.{both, first, second}
-use Rattle.manifest_rows.proofs.ListedLaws.{row_listed}
-use Rattle.manifest_rows.specs.Listed as told
+use Rattle.commit_manifests.proofs.CallerLemmas.{both, first, second, row_listed, all_joined}
+use Rattle.commit_manifests.specs.Listed as told
 use Rattle.manifest_writer.specs.EntryDatum.{entry_size}
 use Rattle.manifest_writer.specs.ListDatum.{counts, has_bounds, is_listed}
 use Rattle.manifest_writer.specs.Readable.{is_written}
@@ -24,14 +23,13 @@ use Rattle.manifest_files.specs.declared.manifest_fault.ManifestFault.{ManifestF
 use Rattle.manifest_files.specs.declared.manifest_fault.ManifestFault.TheVariants as manifest
 use Rattle.manifest_files.specs.Entries.{entries_of}
 use Rattle.manifest_files.specs.Lists.{rows_of_list}
-use Rattle.manifest_rewriting.proofs.EntriesAgain.{entries_are_written}
-use Rattle.manifest_rewriting.proofs.RowsAgain.{rows_are_listed}
-use Rattle.manifest_rows.specs.declared.commit_numbers.CommitNumbers.{CommitNumbers}
-use Rattle.manifest_rows.specs.Rows.{row_of}
+use Rattle.manifest_writer.proofs.CallerLemmas.{entries_are_written, rows_are_listed}
+use Rattle.commit_manifests.specs.declared.commit_numbers.CommitNumbers.{CommitNumbers}
+use Rattle.commit_manifests.specs.Rows.{row_of}
 use Rattle.plain_types.specs.Steps.{◌>>=◌, by_option, fault_as, or_fault}
 use Rattle.store_core.specs.Files.{Files}
-use Rattle.file_names.specs.declared.names.Names.{Names}
-use Rattle.table_metadata.proofs.Coherence.{two_steps}
+use Rattle.table_names.specs.declared.names.Names.{Names}
+use Rattle.plain_types.proofs.CallerLemmas.{two_steps}
 use Rattle.table_metadata.specs.declared.metadata_fault.MetadataFault.TheVariants as metadata
 use Rattle.table_metadata.specs.Metadata.{Parts, parts}
 use Rattle.table_state.specs.declared.load_fault.LoadFault.{LoadFault}
@@ -39,24 +37,24 @@ use Rattle.table_state.specs.declared.load_fault.LoadFault.TheVariants as fault
 use Rattle.table_state.specs.declared.live_set.BranchState.{BranchState}
 use Rattle.table_state.specs.declared.live_set.BranchState.TheVariants as state
 use Rattle.table_state.specs.declared.live_set.LiveSet.{LiveSet}
-use Rattle.table_state.specs.Files.{current_schema, entries_in, file_at, list_at, list_in, manifest_at, schema_with, spec_with}
+use Rattle.table_state.specs.Files.{current_schema, entries_in, file_at, list_at, list_in, manifest_at}
+use Rattle.table_metadata.specs.ById.{schema_with, spec_with}
 use Rattle.table_state.specs.Live.{branch_at, is_data, is_live}
-use Rattle.table_state.specs.Paths.{folder_of}
-use Rattle.table_load.proofs.Parting.{found_list}
-use Rattle.table_load.specs.declared.state.State.{State}
-use Rattle.table_load.specs.Gathering.{live_data, live_deletes}
-use Rattle.table_load.specs.States.{IsStateOf, manifests_of}
-use Rattle.table_load.specs.declared.state.LiveCount.{LiveCount}
+use Rattle.table_names.specs.Paths.{folder_of}
+use Rattle.table_state.proofs.CallerLemmas.{found_list}
+use Rattle.table_state.specs.declared.state.State.{State}
+use Rattle.table_state.specs.Gathering.{live_data, live_deletes}
+use Rattle.table_state.specs.States.{IsStateOf, manifests_of}
+use Rattle.table_state.specs.declared.state.LiveCount.{LiveCount}
 use Rattle.change_sets.specs.declared.change.AddedAs.{AddedAs}
 use Rattle.change_sets.specs.declared.change.ChangeSet.{ChangeSet}
 use Rattle.change_sets.specs.Laid.{as_added, as_kept, as_removed}
 use Rattle.change_sets.specs.Same.{is_among}
-use Rattle.commit_builder.specs.declared.drafts.Draft.{Draft}
+use Rattle.commit_manifests.specs.declared.drafts.Draft.{Draft}
 use Rattle.commit_builder.specs.Commits.{commit_numbers, drafts_in, drawn, live_in, next_name, numbers_in, row_in, rows_from, rows_in, schema_of, sorted_in, text_in}
-use Rattle.commit_builder.specs.Drafts.{Drafts, and_entry, begun, finished, finished_by, nothing, spec_in, with_piece}
+use Rattle.commit_manifests.specs.Drafts.{Drafts, and_entry, begun, finished, finished_by, nothing, spec_in, with_piece}
 use Rattle.commit_builder.specs.NextVersion.{CanBeAdded, CanBeLaid, CanBeRewritten, HasNumbers, IsReadable}
-use Rattle.commit_builder.specs.Sorting.{Sorted, added_drafts, and_group, and_groups, and_manifest, and_rewritten, has_removed, is_empty, rewritten, sorted_from, sorted_of, spec_ids}
-use Rattle.commit_builder.proofs.Every.{all_joined}
+use Rattle.commit_manifests.specs.Sorting.{Sorted, added_drafts, and_group, and_groups, and_manifest, and_rewritten, has_removed, is_empty, rewritten, sorted_from, sorted_of, spec_ids}
 use Rattle.commit_builder.proofs.Following.{follows}
 use Rattle.commit_builder.proofs.Standing.{Known, head_known, kept_rows, own_row, standing_in}
 
@@ -99,7 +97,8 @@ module _ (P : ℤ → Entry → Type 0) (specs : List Spec) (schema : TableSchem
   open_by : (id : ℤ) (kind : ManifestContent) (d : Drafts) → Shut d → Have id (begun id kind d)
   open_by id kind d h = record { spec = refl; closed = h.all; piece = subst (AllByRecursion (P id)) (sym h.none) tt }
 
-  entry_by : (b : Bool) (id : ℤ) (d : Drafts) (entry : Entry) (left : ℕ) → Have id d → P id entry → Have id (if b then with_piece (record d { piece = d.piece ++ entry ∷ [] }) else record d { piece = d.piece ++ entry ∷ []; left = left })
+  entry_by : (b : Bool) (id : ℤ) (d : Drafts) (entry : Entry) (left : ℕ) → Have id d → P id entry
+      → Have id (if b then with_piece (record d { piece = d.piece ++ entry ∷ [] }) else record d { piece = d.piece ++ entry ∷ []; left = left })
   entry_by true id d entry left h p = have_piece id (record d { piece = d.piece ++ entry ∷ [] }) (one_joined d.piece entry) (record { spec = h.spec; closed = h.closed; piece = all_joined (P d.spec) d.piece (entry ∷ []) h.piece (subst (λ n. P n entry) (sym h.spec) p, tt) })
   entry_by false id d entry left h p = record { spec = h.spec; closed = h.closed; piece = all_joined (P d.spec) d.piece (entry ∷ []) h.piece (subst (λ n. P n entry) (sym h.spec) p, tt) }
 
@@ -114,7 +113,8 @@ module _ (P : ℤ → Entry → Type 0) (specs : List Spec) (schema : TableSchem
     same : (a b : ℤ) → int_eq a b ≡ true → a ≡ b
     same a b h = grind (arith, ints)
 
-    group_by : (b : Bool) (id : ℤ) (d : Drafts) (entry : Entry) → int_eq entry.spec id ≡ b → Have id d → Added entry → Have id (if b then and_entry specs schema d (as_added numbers entry) else d)
+    group_by : (b : Bool) (id : ℤ) (d : Drafts) (entry : Entry) → int_eq entry.spec id ≡ b → Have id d → Added entry
+        → Have id (if b then and_entry specs schema d (as_added numbers entry) else d)
     group_by true id d entry is h p = have_entry id d (as_added numbers entry) h (subst (λ n. P n (as_added numbers entry)) (same entry.spec id is) p)
     group_by false id d entry is h p = h
 
@@ -123,14 +123,16 @@ module _ (P : ℤ → Entry → Type 0) (specs : List Spec) (schema : TableSchem
     have_group id d [] h ps = h
     have_group id d (entry ∷ entries) h ps = have_group id (if int_eq entry.spec id then and_entry specs schema d (as_added numbers entry) else d) entries (group_by (int_eq entry.spec id) id d entry refl h ps.0) ps.1
 
-    shut_groups : (kind : ManifestContent) (entries : List Entry) (d : Drafts) (ids : List ℤ) → Shut d → AllByRecursion Added entries → Shut (and_groups specs schema numbers kind entries d ids)
+    shut_groups : (kind : ManifestContent) (entries : List Entry) (d : Drafts) (ids : List ℤ) → Shut d
+        → AllByRecursion Added entries → Shut (and_groups specs schema numbers kind entries d ids)
     unfolding and_groups
     shut_groups kind entries d [] h ps = h
     shut_groups kind entries d (id ∷ ids) h ps =
         let group : Drafts = and_group specs schema numbers id (begun id kind d) entries in
         shut_groups kind entries (finished group) ids (shut id group (have_group id (begun id kind d) entries (open_by id kind d h) ps)) ps
 
-    shut_added : (change : ChangeSet) → AllByRecursion Added change.added_data → AllByRecursion Added change.added_deletes → Shut (added_drafts specs schema numbers change)
+    shut_added : (change : ChangeSet) → AllByRecursion Added change.added_data → AllByRecursion Added change.added_deletes
+        → Shut (added_drafts specs schema numbers change)
     unfolding added_drafts
     shut_added change ds xs = shut_groups content.Deletes change.added_deletes (and_groups specs schema numbers content.Data change.added_data nothing (spec_ids [] change.added_data)) (spec_ids [] change.added_deletes) (shut_groups content.Data change.added_data nothing (spec_ids [] change.added_data) (record { all = tt; none = refl }) ds) xs
 
@@ -139,12 +141,15 @@ module _ (P : ℤ → Entry → Type 0) (specs : List Spec) (schema : TableSchem
     rewritten_by true id entry p = gone id entry p
     rewritten_by false id entry p = kept id entry p
 
-    have_rewritten : (id : ℤ) (removed : List Entry) (d : Drafts) (entries : List Entry) → Have id d → AllByRecursion (P id) entries → Have id (and_rewritten specs schema removed snapshot d entries)
+    have_rewritten : (id : ℤ) (removed : List Entry) (d : Drafts) (entries : List Entry) → Have id d
+        → AllByRecursion (P id) entries → Have id (and_rewritten specs schema removed snapshot d entries)
     unfolding and_rewritten rewritten
     have_rewritten id removed d [] h ps = h
     have_rewritten id removed d (entry ∷ entries) h ps = have_rewritten id removed (and_entry specs schema d (rewritten removed snapshot entry)) entries (have_entry id d (rewritten removed snapshot entry) h (rewritten_by (is_among removed entry) id entry ps.0)) ps.1
 
-    manifest_by : (b c : Bool) (removed : List Entry) (s : Sorted) (row : ManifestRow) (data_files deletes : List Entry) → Shut s.drafts → AllByRecursion (P row.partition_spec_id) data_files → AllByRecursion (P row.partition_spec_id) deletes → Shut (if b then record s { drafts = finished (and_rewritten specs schema [] snapshot (and_rewritten specs schema removed snapshot (begun row.partition_spec_id row.content s.drafts) data_files) deletes) } else if c then s else record s { standing = s.standing ++ row ∷ [] }).drafts
+    manifest_by : (b c : Bool) (removed : List Entry) (s : Sorted) (row : ManifestRow) (data_files deletes : List Entry)
+        → Shut s.drafts → AllByRecursion (P row.partition_spec_id) data_files → AllByRecursion (P row.partition_spec_id) deletes
+        → Shut (if b then record s { drafts = finished (and_rewritten specs schema [] snapshot (and_rewritten specs schema removed snapshot (begun row.partition_spec_id row.content s.drafts) data_files) deletes) } else if c then s else record s { standing = s.standing ++ row ∷ [] }).drafts
     manifest_by true c removed s row data_files deletes h ds xs =
         let id : ℤ = row.partition_spec_id in
         let begin : Drafts = begun id row.content s.drafts in
@@ -159,7 +164,9 @@ module _ (P : ℤ → Entry → Type 0) (specs : List Spec) (schema : TableSchem
     OfHead (row ∷ rows) [] data_files deletes = ⊤
     OfHead (row ∷ rows) (count ∷ counts) data_files deletes = (AllByRecursion (P row.partition_spec_id) (take count.data_files data_files) × AllByRecursion (P row.partition_spec_id) (take count.deletes deletes)) × OfHead rows counts (drop count.data_files data_files) (drop count.deletes deletes)
 
-    shut_head : (removed : List Entry) (s : Sorted) (rows : List ManifestRow) (counts : List LiveCount) (data_files deletes : List Entry) → Shut s.drafts → OfHead rows counts data_files deletes → Shut (sorted_from specs schema removed snapshot s rows counts data_files deletes).drafts
+    shut_head : (removed : List Entry) (s : Sorted) (rows : List ManifestRow) (counts : List LiveCount)
+        (data_files deletes : List Entry) → Shut s.drafts → OfHead rows counts data_files deletes
+        → Shut (sorted_from specs schema removed snapshot s rows counts data_files deletes).drafts
     unfolding sorted_from
     shut_head removed s [] counts data_files deletes h ps = h
     shut_head removed s (row ∷ rows) [] data_files deletes h ps = h
@@ -167,7 +174,8 @@ module _ (P : ℤ → Entry → Type 0) (specs : List Spec) (schema : TableSchem
         shut_head removed (and_manifest specs schema removed snapshot s row (take count.data_files data_files) (take count.deletes deletes)) rows counts (drop count.data_files data_files) (drop count.deletes deletes)
         (manifest_by (has_removed removed (take count.data_files data_files)) (is_empty (take count.data_files data_files) && is_empty (take count.deletes deletes)) removed s row (take count.data_files data_files) (take count.deletes deletes) h ps.0.0 ps.0.1) ps.1
 
-    pub all_of_drafts : (numbers : AddedAs) (change : ChangeSet) (rows : List ManifestRow) (counts : List LiveCount) (live_set : LiveSet) → numbers.snapshot ≡ snapshot
+    pub all_of_drafts : (numbers : AddedAs) (change : ChangeSet) (rows : List ManifestRow) (counts : List LiveCount)
+        (live_set : LiveSet) → numbers.snapshot ≡ snapshot
         → AllByRecursion (λ (entry : Entry). P entry.spec (as_added numbers entry)) change.added_data → AllByRecursion (λ (entry : Entry). P entry.spec (as_added numbers entry)) change.added_deletes → OfHead rows counts live_set.data_files live_set.deletes
         → AllByRecursion OfDraft (sorted_of specs schema change.removed numbers change rows counts live_set).drafts.closed
     unfolding sorted_of
@@ -232,13 +240,15 @@ kept_is_written spec schema entry h =
     let same : is_written spec schema entry ≡ is_written spec schema (as_kept entry) = rw below refl in
     sym same ∙ h
 
-pub gone_is_written : (snapshot : ℤ) (spec : Spec) (schema : TableSchema) (entry : Entry) → is_written spec schema entry ≡ true → is_written spec schema (as_removed snapshot entry) ≡ true
+pub gone_is_written : (snapshot : ℤ) (spec : Spec) (schema : TableSchema) (entry : Entry) → is_written spec schema entry ≡ true
+    → is_written spec schema (as_removed snapshot entry) ≡ true
 gone_is_written snapshot spec schema entry h =
     let below : nat_lt entry.status 3 ≡ true = below_three spec schema entry (nat_lt entry.status 3) refl h in
     let same : is_written spec schema entry ≡ is_written spec schema (as_removed snapshot entry) = rw below refl in
     sym same ∙ h
 
-pub added_is_written : (numbers : AddedAs) (spec : Spec) (schema : TableSchema) (entry : Entry) → is_written spec schema entry ≡ true → is_written spec schema (as_added numbers entry) ≡ true
+pub added_is_written : (numbers : AddedAs) (spec : Spec) (schema : TableSchema) (entry : Entry)
+    → is_written spec schema entry ≡ true → is_written spec schema (as_added numbers entry) ≡ true
 added_is_written numbers spec schema entry h =
     let below : nat_lt entry.status 3 ≡ true = below_three spec schema entry (nat_lt entry.status 3) refl h in
     let same : is_written spec schema entry ≡ is_written spec schema (as_added numbers entry) = rw below refl in
@@ -263,15 +273,18 @@ read_rows path (Ok rs) rows h = cc
 read_rows path (Err f) rows h = cc
 
 -- those that a test keeps
-kept_by_test : (test keep : Entry → Bool) (entries : List Entry) → list_all test entries ≡ true → AllByRecursion (λ entry. test entry ≡ true) (filter keep entries)
+kept_by_test : (test keep : Entry → Bool) (entries : List Entry) → list_all test entries ≡ true
+    → AllByRecursion (λ entry. test entry ≡ true) (filter keep entries)
 kept_by_test test keep [] h = tt
 kept_by_test test keep (entry ∷ entries) h = one_by (keep entry) (first (test entry) (list_all test entries) h) (kept_by_test test keep entries (second (test entry) (list_all test entries) h))
   where
-    one_by : (b : Bool) → test entry ≡ true → AllByRecursion (λ e. test e ≡ true) (filter keep entries) → AllByRecursion (λ e. test e ≡ true) (cond b (entry ∷ filter keep entries) (filter keep entries))
+    one_by : (b : Bool) → test entry ≡ true → AllByRecursion (λ e. test e ≡ true) (filter keep entries)
+        → AllByRecursion (λ e. test e ≡ true) (cond b (entry ∷ filter keep entries) (filter keep entries))
     one_by true own others = (own, others)
     one_by false own others = others
 
-twice : (test keep more : Entry → Bool) (entries : List Entry) → list_all test entries ≡ true → AllByRecursion (λ entry. test entry ≡ true) (filter more (filter keep entries))
+twice : (test keep more : Entry → Bool) (entries : List Entry) → list_all test entries ≡ true
+    → AllByRecursion (λ entry. test entry ≡ true) (filter more (filter keep entries))
 twice test keep more entries h = kept_by_test test more (filter keep entries) (all_true (filter keep entries) (kept_by_test test keep entries h))
   where
     all_true : (es : List Entry) → AllByRecursion (λ e. test e ≡ true) es → list_all test es ≡ true
@@ -294,7 +307,8 @@ module _ (specs : List Spec) (schema : TableSchema) where
   held_by id spec found entry h = (found ∙ ap Some (sym (spec_is id spec found)), ap (λ (s : Spec). is_written s schema entry) (spec_is id spec found) ∙ h)
 
   module _ (table : List ℕ) (p : Parts) (files : Files) (specs_are : p.specs ≡ specs) (schema_is : schema_with p.current_schema p.schemas ≡ Some schema) where
-    manifest_held : (row : ManifestRow) (entries : List Entry) → manifest_at table p row files ≡ Ok entries → (spec : Spec) × (spec_with row.partition_spec_id specs ≡ Some spec) × (list_all (is_written spec schema) entries ≡ true)
+    manifest_held : (row : ManifestRow) (entries : List Entry) → manifest_at table p row files ≡ Ok entries → (spec : Spec)
+        × (spec_with row.partition_spec_id specs ≡ Some spec) × (list_all (is_written spec schema) entries ≡ true)
     unfolding manifest_at entries_in
     manifest_held row entries e =
         let bytes = two_steps (file_at table p.location row.manifest_path files) (entries_in p row) entries e in
@@ -305,14 +319,19 @@ module _ (specs : List Spec) (schema : TableSchema) where
         let found : spec_with row.partition_spec_id specs ≡ Some spec.0 = ap (λ (ss : List Spec). spec_with row.partition_spec_id ss) (sym specs_are) ∙ found_spec (fault.Manifest row.manifest_path (manifest.Spec row.partition_spec_id)) (spec_with row.partition_spec_id p.specs) spec.0 spec.1 in
         (spec.0, found, entries_are_written bytes.0 row spec.0 schema entries read)
 
-    held_data : (row : ManifestRow) (entries : List Entry) → manifest_at table p row files ≡ Ok entries → AllByRecursion (IsHeld row.partition_spec_id) (live_data entries) × AllByRecursion (IsHeld row.partition_spec_id) (live_deletes entries)
+    held_data : (row : ManifestRow) (entries : List Entry) → manifest_at table p row files ≡ Ok entries
+        → AllByRecursion (IsHeld row.partition_spec_id) (live_data entries)
+        × AllByRecursion (IsHeld row.partition_spec_id) (live_deletes entries)
     held_data row entries e =
         let m = manifest_held row entries e in (
           mapped (λ entry. is_written m.0 schema entry ≡ true) (IsHeld row.partition_spec_id) (held_by row.partition_spec_id m.0 m.1) (live_data entries) (twice (is_written m.0 schema) is_live is_data entries m.2),
           mapped (λ entry. is_written m.0 schema entry ≡ true) (IsHeld row.partition_spec_id) (held_by row.partition_spec_id m.0 m.1) (live_deletes entries) (twice (is_written m.0 schema) is_live (λ entry. not (is_data entry)) entries m.2),
         )
 
-    pub head_held : (snapshot : ℤ) (kept : (id : ℤ) (entry : Entry) → IsHeld id entry → IsHeld id (as_kept entry)) (gone : (id : ℤ) (entry : Entry) → IsHeld id entry → IsHeld id (as_removed snapshot entry)) (rows : List ManifestRow) (counts : List LiveCount) (data_files deletes : List Entry) → Known table p files rows counts data_files deletes → OfHead IsHeld specs schema snapshot kept gone rows counts data_files deletes
+    pub head_held : (snapshot : ℤ) (kept : (id : ℤ) (entry : Entry) → IsHeld id entry → IsHeld id (as_kept entry))
+        (gone : (id : ℤ) (entry : Entry) → IsHeld id entry → IsHeld id (as_removed snapshot entry)) (rows : List ManifestRow)
+        (counts : List LiveCount) (data_files deletes : List Entry) → Known table p files rows counts data_files deletes
+        → OfHead IsHeld specs schema snapshot kept gone rows counts data_files deletes
     head_held snapshot kept gone [] counts data_files deletes known = tt
     head_held snapshot kept gone (row ∷ rows) [] data_files deletes known = tt
     head_held snapshot kept gone (row ∷ rows) (count ∷ counts) data_files deletes known =
@@ -321,14 +340,16 @@ module _ (specs : List Spec) (schema : TableSchema) where
           head_held snapshot kept gone rows counts (drop count.data_files data_files) (drop count.deletes deletes) known.1,
         )
 
-list_listed : (table : List ℕ) (p : Parts) (files : Files) (path : List ℕ) (rows : List ManifestRow) → list_at table p path files ≡ Ok rows → list_all is_listed rows ≡ true
+list_listed : (table : List ℕ) (p : Parts) (files : Files) (path : List ℕ) (rows : List ManifestRow)
+    → list_at table p path files ≡ Ok rows → list_all is_listed rows ≡ true
 unfolding list_at
 list_listed table p files path rows read =
     let bytes = two_steps (file_at table p.location path files) (list_in path) rows read in
     rows_are_listed bytes.0 rows (read_rows path (rows_of_list bytes.0) rows bytes.2)
 
 -- the rows of the head's list are read again
-listed_by : (table : List ℕ) (p : Parts) (files : Files) (branch : List ℕ) (head : BranchState) → branch_at table p branch files ≡ Ok head → list_all is_listed (manifests_of head) ≡ true
+listed_by : (table : List ℕ) (p : Parts) (files : Files) (branch : List ℕ) (head : BranchState)
+    → branch_at table p branch files ≡ Ok head → list_all is_listed (manifests_of head) ≡ true
 listed_by table p files branch state.Absent e = refl
 listed_by table p files branch state.Empty e = refl
 listed_by table p files branch (state.Head snapshot rows live) e =
@@ -339,7 +360,8 @@ all_joined_true : (xs ys : List ManifestRow) → list_all is_listed xs ≡ true 
 all_joined_true [] ys h k = k
 all_joined_true (x ∷ xs) ys h k = both (is_listed x) (list_all is_listed (xs ++ ys)) (first (is_listed x) (list_all is_listed xs) h) (all_joined_true xs ys (second (is_listed x) (list_all is_listed xs) h) k)
 
-kept_listed : (removed : List Entry) (rows : List ManifestRow) (counts : List LiveCount) (data_files deletes : List Entry) → list_all is_listed rows ≡ true → list_all is_listed (kept_rows removed rows counts data_files deletes) ≡ true
+kept_listed : (removed : List Entry) (rows : List ManifestRow) (counts : List LiveCount) (data_files deletes : List Entry)
+    → list_all is_listed rows ≡ true → list_all is_listed (kept_rows removed rows counts data_files deletes) ≡ true
 kept_listed removed [] counts data_files deletes h = refl
 kept_listed removed (row ∷ rows) [] data_files deletes h = refl
 kept_listed removed (row ∷ rows) (count ∷ counts) data_files deletes h =
@@ -352,7 +374,9 @@ kept_listed removed (row ∷ rows) (count ∷ counts) data_files deletes h =
     own_listed false true own = refl
     own_listed false false own = both (is_listed row) true own refl
 
-new_listed : (head : State) (schema : TableSchema) (numbers : CommitNumbers) (names : Names) (rows : List ManifestRow) (drafts : List Draft) → list_all is_listed rows ≡ true → list_all is_listed (rows_from head schema numbers names rows drafts) ≡ true
+new_listed : (head : State) (schema : TableSchema) (numbers : CommitNumbers) (names : Names) (rows : List ManifestRow)
+    (drafts : List Draft) → list_all is_listed rows ≡ true
+    → list_all is_listed (rows_from head schema numbers names rows drafts) ≡ true
 unfolding rows_from row_in
 new_listed head schema numbers names rows [] h = h
 new_listed head schema numbers names rows (draft ∷ drafts) h =
@@ -381,11 +405,13 @@ module _ (head : State) (change : ChangeSet) (names : Names) (now : ℤ) (versio
       (mapped (CanBeAdded head) (λ entry. Held entry.spec (as_added (numbers_in head) entry)) added_held change.added_deletes deletes_added)
       (head_held head.metadata.specs (schema_of head) head.table (parts head.metadata) old refl anew.schema (numbers_in head).snapshot kept_held gone_held (manifests_of head.head) head.held (live_in head.head).data_files (live_in head.head).deletes (head_known head.table head.branch version old head is))
 
-  spec_found : (entries : List Entry) (id : ℤ) → AtLeastOne entries → AllByRecursion (Held id) entries → spec_with id head.metadata.specs ≡ Some (spec_in head.metadata.specs id)
+  spec_found : (entries : List Entry) (id : ℤ) → AtLeastOne entries → AllByRecursion (Held id) entries
+      → spec_with id head.metadata.specs ≡ Some (spec_in head.metadata.specs id)
   spec_found [] id some h = absurd some
   spec_found (entry ∷ entries) id some h = h.0.0
 
-  all_written : (id : ℤ) (entries : List Entry) → AllByRecursion (Held id) entries → list_all (is_written (spec_in head.metadata.specs id) (schema_of head)) entries ≡ true
+  all_written : (id : ℤ) (entries : List Entry) → AllByRecursion (Held id) entries
+      → list_all (is_written (spec_in head.metadata.specs id) (schema_of head)) entries ≡ true
   all_written id [] h = refl
   all_written id (entry ∷ entries) h = both (is_written (spec_in head.metadata.specs id) (schema_of head) entry) (list_all (is_written (spec_in head.metadata.specs id) (schema_of head)) entries) h.0.1 (all_written id entries h.1)
 

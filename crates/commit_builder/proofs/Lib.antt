@@ -1,10 +1,15 @@
-pub mod Laying
-pub mod Following
-pub mod NextHead
-pub mod Standing
-pub mod Reading
-pub mod Every
-pub mod Held
-pub mod Manifests
-pub mod NewIds
-pub mod Puts
+mod Adding
+pub mod CallerLemmas
+mod Following
+mod Laying
+mod Manifests
+mod NewIds
+mod Next
+mod NextHead
+mod Numbers
+mod Parts
+mod PlainForm
+mod Puts
+mod Reading
+mod Rewriting
+mod Standing

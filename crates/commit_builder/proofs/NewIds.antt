@@ -4,7 +4,8 @@ use Rattle.std.specs.Prelude.{if◌then◌else◌}
 use Rattle.std.specs.Int.{int_max}
 use Rattle.std.specs.Ordering.{int_eq}
 use Rattle.std.proofs.lemmas.Int.{ints, clamps}
-use Rattle.commit_builder.specs.SnapshotIds.{above, free_from, greatest, has_id, last, next_id}
+use Rattle.commit_builder.specs.SnapshotIds.{above, free_from, greatest, last, next_id}
+use Rattle.commit_manifests.specs.Sorting.{has_id}
 
 -- ---- above the greatest
 
@@ -22,7 +23,9 @@ stays n best (id ∷ ids) h = stays n (int_max id best) ids (first_stays n id be
 same : (a b : ℤ) → int_eq a b ≡ true → a ≡ b
 same a b h = grind (arith, ints)
 
-at_least_by : (b : Bool) (id one best : ℤ) (ids : List ℤ) → int_eq one id ≡ b → (if b then true else has_id id ids) ≡ true → (has_id id ids ≡ true → int_lt (greatest (int_max one best) ids) id ≡ false) → int_lt (greatest (int_max one best) ids) id ≡ false
+at_least_by : (b : Bool) (id one best : ℤ) (ids : List ℤ) → int_eq one id ≡ b → (if b then true else has_id id ids) ≡ true
+    → (has_id id ids ≡ true → int_lt (greatest (int_max one best) ids) id ≡ false)
+    → int_lt (greatest (int_max one best) ids) id ≡ false
 at_least_by true id one best ids is found more = subst (λ n. int_lt (greatest (int_max one best) ids) n ≡ false) (same one id is) (stays one (int_max one best) ids (second_stays one best))
 at_least_by false id one best ids is found more = more found
 
@@ -47,7 +50,9 @@ remove : ℤ → List ℤ → List ℤ
 remove n [] = []
 remove n (one ∷ pool) = if int_eq one n then pool else one ∷ remove n pool
 
-one_fewer_by : (b : Bool) (n one : ℤ) (pool : List ℤ) → (if b then true else has_id n pool) ≡ true → (has_id n pool ≡ true → suc (length (remove n pool)) ≡ length pool) → suc (length (if b then pool else one ∷ remove n pool)) ≡ suc (length pool)
+one_fewer_by : (b : Bool) (n one : ℤ) (pool : List ℤ) → (if b then true else has_id n pool) ≡ true
+    → (has_id n pool ≡ true → suc (length (remove n pool)) ≡ length pool)
+    → suc (length (if b then pool else one ∷ remove n pool)) ≡ suc (length pool)
 one_fewer_by true n one pool found more = refl
 one_fewer_by false n one pool found more = ap suc (more found)
 
@@ -59,7 +64,9 @@ one_fewer n (one ∷ pool) found = one_fewer_by (int_eq one n) n one pool found 
 apart : (a b c : ℤ) → int_eq a b ≡ true → int_eq a c ≡ true → int_eq b c ≡ false → true ≡ false
 apart a b c h k l = grind (arith, ints)
 
-others_stay_by : (b d : Bool) (n m one : ℤ) (pool : List ℤ) → int_eq one n ≡ b → int_eq one m ≡ d → int_eq n m ≡ false → (if d then true else has_id m pool) ≡ true → (has_id m pool ≡ true → has_id m (remove n pool) ≡ true) → has_id m (if b then pool else one ∷ remove n pool) ≡ true
+others_stay_by : (b d : Bool) (n m one : ℤ) (pool : List ℤ) → int_eq one n ≡ b → int_eq one m ≡ d → int_eq n m ≡ false
+    → (if d then true else has_id m pool) ≡ true → (has_id m pool ≡ true → has_id m (remove n pool) ≡ true)
+    → has_id m (if b then pool else one ∷ remove n pool) ≡ true
 unfolding has_id
 others_stay_by true true n m one pool e f differ found more = absurd (true≢false (apart one n m e f differ))
 others_stay_by true false n m one pool e f differ found more = found
@@ -106,7 +113,8 @@ free_is_new_by n more ids pool true e holds is small go =
     subst (λ m. has_id (free_from m more ids) ids ≡ false) (sym (one_above n small))
     (go (remove n pool) (omega arith) (λ m high there. others_stay n m pool (not_same n m high) (holds m (not_below n m high) there)))
 
-free_is_new : (n : ℤ) (more ids pool : List ℤ) → length more ≡ length pool → Holds n ids pool → int_lt (n +ℤ pos (length more)) last ≡ true → has_id (free_from n more ids) ids ≡ false
+free_is_new : (n : ℤ) (more ids pool : List ℤ) → length more ≡ length pool → Holds n ids pool
+    → int_lt (n +ℤ pos (length more)) last ≡ true → has_id (free_from n more ids) ids ≡ false
 unfolding free_from
 free_is_new n [] ids pool e holds small = none_left n ids pool (has_id n ids) e holds refl
 free_is_new n (one ∷ more) ids pool e holds small =
@@ -115,7 +123,8 @@ free_is_new n (one ∷ more) ids pool e holds small =
 few_enough : (k : ℕ) → k < 2 ^ 62 → int_lt (pos 1 +ℤ pos k) last ≡ true
 few_enough k h = grind (arith, ints)
 
-next_is_new_by : (ids : List ℤ) (b : Bool) → length ids < 2 ^ 62 → int_lt (greatest (pos 0) ids) last ≡ b → has_id (if b then above (greatest (pos 0) ids) else free_from (pos 1) ids ids) ids ≡ false
+next_is_new_by : (ids : List ℤ) (b : Bool) → length ids < 2 ^ 62 → int_lt (greatest (pos 0) ids) last ≡ b
+    → has_id (if b then above (greatest (pos 0) ids) else free_from (pos 1) ids ids) ids ≡ false
 next_is_new_by ids true few is = above_is_new_by ids (has_id (above (greatest (pos 0) ids)) ids) is refl
 next_is_new_by ids false few is = free_is_new (pos 1) ids ids ids refl (λ m high there. there) (few_enough (length ids) few)
 

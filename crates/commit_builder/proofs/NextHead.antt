@@ -11,19 +11,19 @@ use Rattle.std.specs.Str.{bytes_eq}
 use Rattle.std.proofs.lemmas.Int.{ints}
 use Rattle.std.proofs.lemmas.Map.Text.{is_eq-slice_cmp}
 use Rattle.std.proofs.lemmas.Slice.Eq.{bytes_eq-Decides}
-use Rattle.plain_types.proofs.BagLaws.{total-append, total-map}
+use Rattle.plain_types.proofs.CallerLemmas.{total-append, total-map}
 use Rattle.plain_types.specs.Bags.{total}
 use Rattle.plain_types.specs.Steps.{◌>>=◌, by_option, fault_as, or_fault}
-use Rattle.store_core.proofs.FilesLemmas.{kept-with_file}
+use Rattle.store_core.proofs.CallerLemmas.{kept-with_file}
 use Rattle.store_core.specs.Files.{Files, KeepsFiles}
-use Rattle.file_names.specs.declared.names.Names.{Names}
-use Rattle.file_names.specs.FileNames.{NoneFrom}
-use Rattle.written_paths.proofs.Paths.{metadata_is}
+use Rattle.table_names.specs.declared.names.Names.{Names}
+use Rattle.table_names.specs.FileNames.{NoneFrom}
+use Rattle.table_names.proofs.CallerLemmas.{metadata_is}
 use Rattle.manifest_files.specs.declared.entry.Entry.{Entry}
 use Rattle.manifest_files.specs.declared.manifest_row.ManifestRow.{ManifestRow}
 use Rattle.manifest_files.specs.Lists.{rows_of_list}
-use Rattle.manifest_rows.specs.declared.commit_numbers.CommitNumbers.{CommitNumbers}
-use Rattle.manifest_writer.proofs.ListLaws.{list_again}
+use Rattle.commit_manifests.specs.declared.commit_numbers.CommitNumbers.{CommitNumbers}
+use Rattle.manifest_writer.proofs.CallerLemmas.{list_again}
 use Rattle.manifest_writer.specs.ListDatum.{list_text}
 use Rattle.metadata_writer.specs.PartsAfter.{branch_at as ref_at, with_ref}
 use Rattle.table_metadata.specs.declared.references.RefItem.{RefItem}
@@ -36,19 +36,19 @@ use Rattle.table_state.specs.declared.load_fault.LoadFault.TheVariants as fault
 use Rattle.table_state.specs.declared.live_set.BranchState.{BranchState}
 use Rattle.table_state.specs.declared.live_set.BranchState.TheVariants as state
 use Rattle.table_state.specs.Files.{list_at, list_in, manifest_at, entries_in}
-use Rattle.table_state.specs.Live.{branch_at, entries_at, head_at, head_of, is_data, is_live, set_of, snapshot_at as read_snapshot, snapshot_with, without_head}
-use Rattle.table_state.specs.Paths.{name_of}
-use Rattle.table_load.specs.declared.state.State.{State}
-use Rattle.table_load.specs.States.{IsParted, IsStateOf, manifests_of}
-use Rattle.table_load.proofs.Parting.{head_is_parted}
+use Rattle.table_state.specs.Live.{branch_at, entries_at, head_at, head_of, is_data, is_live, set_of, snapshot_at as read_snapshot, without_head}
+use Rattle.table_metadata.specs.ById.{snapshot_with}
+use Rattle.table_names.specs.Paths.{name_of}
+use Rattle.table_state.specs.declared.state.State.{State}
+use Rattle.table_state.specs.States.{IsParted, IsStateOf, manifests_of}
+use Rattle.table_state.proofs.CallerLemmas.{head_is_parted}
 use Rattle.change_sets.specs.declared.change.ChangeSet.{ChangeSet}
 use Rattle.change_sets.specs.Laid.{as_kept, laid}
-use Rattle.commit_builder.specs.declared.drafts.Draft.{Draft}
+use Rattle.commit_manifests.specs.declared.drafts.Draft.{Draft}
 use Rattle.commit_builder.specs.Commits.{AreSpelled, commit_numbers, drafts_in, files_after, list_names, live_in, manifests_after, next_name, numbers_in, rows_in, schema_of, snapshot_in, sorted_in}
-use Rattle.commit_builder.specs.Holding.{entries_of, held_after, standing_files}
+use Rattle.commit_manifests.specs.Holding.{entries_of, held_after, standing_files}
 use Rattle.commit_builder.specs.NextVersion.{AreNames, CanBeLaid, HoldsChange, next_parts}
-use Rattle.commit_builder.proofs.Every.{all_numbered}
-use Rattle.commit_builder.proofs.Held.{holds}
+use Rattle.commit_manifests.proofs.CallerLemmas.{all_numbered, holds}
 use Rattle.commit_builder.proofs.Reading.{Stand, all_read, all_stand, file_is, keeps_from, none_from, row_list, rows_listed, there}
 use Rattle.commit_builder.proofs.Standing.{Again, Known, all_again, head_known, kept_rows, live_joined, split, standing_in}
 
@@ -66,7 +66,10 @@ module _ (branch : List ℕ) (id : ℤ) where
   unfolding head_of
   first_is refs = ap (λ b. if b && true then Some id else head_of branch refs) ((bytes_eq-Decides branch branch).1 refl)
 
-  ref_is_by : (o : Ordering) (x : RefItem) (xs : List RefItem) → slice_cmp nat_cmp branch x.name ≡ o → head_of branch (with_ref (ref_at branch id) xs) ≡ Some id → head_of branch (match_ordering o (ref_at branch id ∷ x ∷ xs) (ref_at branch id ∷ xs) (x ∷ with_ref (ref_at branch id) xs)) ≡ Some id
+  ref_is_by : (o : Ordering) (x : RefItem) (xs : List RefItem) → slice_cmp nat_cmp branch x.name ≡ o
+      → head_of branch (with_ref (ref_at branch id) xs) ≡ Some id
+      → head_of branch (match_ordering o (ref_at branch id ∷ x ∷ xs) (ref_at branch id ∷ xs)
+      (x ∷ with_ref (ref_at branch id) xs)) ≡ Some id
   unfolding head_of
   ref_is_by Less x xs is rest = first_is (x ∷ xs)
   ref_is_by Equal x xs is rest = first_is xs
@@ -91,14 +94,18 @@ unfolding snapshot_with
 snapshot_is s [] none = ap (λ b. if b then Some s else snapshot_with s.id []) (same_id s.id)
 snapshot_is s (x ∷ xs) none = one_by (int_eq x.id s.id) x xs none (snapshot_is s xs)
   where
-    one_by : (b : Bool) (x : Snapshot) (xs : List Snapshot) → (b || has_snapshot s.id xs) ≡ false → (has_snapshot s.id xs ≡ false → snapshot_with s.id (xs ++ s ∷ []) ≡ Some s) → (if b then Some x else snapshot_with s.id (xs ++ s ∷ [])) ≡ Some s
+    one_by : (b : Bool) (x : Snapshot) (xs : List Snapshot) → (b || has_snapshot s.id xs) ≡ false
+        → (has_snapshot s.id xs ≡ false → snapshot_with s.id (xs ++ s ∷ []) ≡ Some s)
+        → (if b then Some x else snapshot_with s.id (xs ++ s ∷ [])) ≡ Some s
     one_by true x xs none rest = absurd (true≢false none)
     one_by false x xs none rest = rest none
 
 -- ---- the branch
 
 module _ (table branch : List ℕ) (p : Parts) (later : Files) (s : Snapshot) where
-  branch_is : (rows : List ManifestRow) (all : List Entry) → head_of branch p.refs ≡ Some s.id → snapshot_with s.id p.snapshots ≡ Some s → list_at table p s.list later ≡ Ok rows → entries_at table p [] rows later ≡ Ok all → branch_at table p branch later ≡ Ok (state.Head s.id rows (set_of all))
+  branch_is : (rows : List ManifestRow) (all : List Entry) → head_of branch p.refs ≡ Some s.id
+      → snapshot_with s.id p.snapshots ≡ Some s → list_at table p s.list later ≡ Ok rows
+      → entries_at table p [] rows later ≡ Ok all → branch_at table p branch later ≡ Ok (state.Head s.id rows (set_of all))
   unfolding branch_at head_at read_snapshot
   branch_is rows all ref found listed read =
       ap (λ (o : Option ℤ). by_option o (λ id. head_at table p branch id later) (Ok (without_head branch))) ref
@@ -106,7 +113,9 @@ module _ (table branch : List ℕ) (p : Parts) (later : Files) (s : Snapshot) wh
       ∙ ap (λ (r : Result (List ManifestRow) LoadFault). r >>= λ found_rows. entries_at table p [] found_rows later >>= λ entries. Ok (state.Head s.id found_rows (set_of entries))) listed
       ∙ ap (λ (r : Result (List Entry) LoadFault). r >>= λ entries. Ok (state.Head s.id rows (set_of entries))) read
 
-  list_is : (rows : List ManifestRow) (name : List ℕ) → name_of table p.location s.list ≡ Some name → files_map.get later name ≡ Some (list_text rows) → rows_of_list (list_text rows) ≡ Ok rows → list_at table p s.list later ≡ Ok rows
+  list_is : (rows : List ManifestRow) (name : List ℕ) → name_of table p.location s.list ≡ Some name
+      → files_map.get later name ≡ Some (list_text rows) → rows_of_list (list_text rows) ≡ Ok rows
+      → list_at table p s.list later ≡ Ok rows
   unfolding list_at
   list_is rows name named stands read =
       ap (λ (r : Result (List ℕ) LoadFault). r >>= list_in s.list) (file_is table p.location later s.list name (list_text rows) named stands)
@@ -122,7 +131,9 @@ filter_true : (p : Entry → Bool) (xs : List Entry) → list_all p (filter p xs
 filter_true p [] = refl
 filter_true p (x ∷ xs) = one_true p x (filter p xs) (p x) refl (filter_true p xs)
 
-parted_by : (table branch : List ℕ) (version : ℕ) (files : Files) (loaded : State) → IsStateOf table version branch files loaded → (head : BranchState) → loaded.head ≡ head → IsParted (manifests_of head) loaded.held (live_in head).data_files (live_in head).deletes
+parted_by : (table branch : List ℕ) (version : ℕ) (files : Files) (loaded : State) → IsStateOf table version branch files loaded
+    → (head : BranchState) → loaded.head ≡ head
+    → IsParted (manifests_of head) loaded.held (live_in head).data_files (live_in head).deletes
 unfolding IsParted
 parted_by table branch version files loaded is state.Absent h = (refl, refl)
 parted_by table branch version files loaded is state.Empty h = (refl, refl)
@@ -191,7 +202,8 @@ module _ (head : State) (change : ChangeSet) (names : Names) (now : ℤ) (versio
   unfolding manifest_at entries_in
   same_read row told = refl
 
-  again : (w : Entry → ℕ) → Again head.table (parts head.metadata) p old later old_kept same_read w (entries_of drafts) kept_manifests (standing_files change.removed (manifests_of head.head) head.held (live_in head.head).data_files (live_in head.head).deletes)
+  again : (w : Entry → ℕ)
+      → Again head.table (parts head.metadata) p old later old_kept same_read w (entries_of drafts) kept_manifests (standing_files change.removed (manifests_of head.head) head.held (live_in head.head).data_files (live_in head.head).deletes)
   again w = all_again head.table (parts head.metadata) p old later old_kept same_read w change.removed (entries_of drafts) (manifests_of head.head) head.held (live_in head.head).data_files (live_in head.head).deletes known
 
   read_by : (w : Entry → ℕ) → entries_at head.table p [] (rows_in head change names) later ≡ Ok (entries_of drafts ++ (again w).more)
@@ -217,7 +229,9 @@ module _ (head : State) (change : ChangeSet) (names : Names) (now : ℤ) (versio
   abbrev weight : (Entry → ℕ) → Entry → ℕ
   weight w entry = w (as_kept entry)
 
-  live_weighed : (w : Entry → ℕ) → total (weight w) (filter is_live all) ≡ total (weight w) (held_after head.metadata.specs (schema_of head) (numbers_in head) change (manifests_of head.head) head.held (live_in head.head))
+  live_weighed : (w : Entry → ℕ) → total (weight w) (filter is_live all) ≡ total (weight w)
+      (held_after head.metadata.specs (schema_of head)
+      (numbers_in head) change (manifests_of head.head) head.held (live_in head.head))
   live_weighed w =
       ap (λ (es : List Entry). total (weight w) (filter is_live es)) (sym (same_more (weight w)))
       ∙ live_joined (weight w) (entries_of drafts) (again (weight w)).more
@@ -230,7 +244,8 @@ module _ (head : State) (change : ChangeSet) (names : Names) (now : ℤ) (versio
       ∙ total-append (weight w) (set_of all).data_files (set_of all).deletes
       ∙ split (weight w) (filter is_live all)
 
-  held_weighed : (w : Entry → ℕ) → total w (map as_kept ((set_of all).data_files ++ (set_of all).deletes)) ≡ total w (map as_kept ((laid (numbers_in head) (live_in head.head) change).data_files ++ (laid (numbers_in head) (live_in head.head) change).deletes))
+  held_weighed : (w : Entry → ℕ)
+      → total w (map as_kept ((set_of all).data_files ++ (set_of all).deletes)) ≡ total w (map as_kept ((laid (numbers_in head) (live_in head.head) change).data_files ++ (laid (numbers_in head) (live_in head.head) change).deletes))
   held_weighed w =
       set_weighed w ∙ live_weighed w
       ∙ sym (total-map w as_kept (held_after head.metadata.specs (schema_of head) (numbers_in head) change (manifests_of head.head) head.held (live_in head.head)))

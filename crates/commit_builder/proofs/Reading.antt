@@ -13,33 +13,33 @@ use Rattle.std.proofs.lemmas.Slice.Eq.{bytes_eq-Decides}
 use Rattle.plain_types.specs.Steps.{◌>>=◌, or_fault, fault_as}
 use Rattle.row_values.specs.declared.partition.Spec.{Spec}
 use Rattle.row_values.specs.declared.schema.TableSchema.{TableSchema}
-use Rattle.store_core.proofs.FilesLemmas.{kept-with_file}
+use Rattle.store_core.proofs.CallerLemmas.{kept-with_file}
 use Rattle.store_core.specs.Files.{Files, KeepsFiles, with_file}
-use Rattle.file_names.proofs.Apart.{after_metadata}
-use Rattle.file_names.specs.declared.names.Names.{Names}
-use Rattle.file_names.specs.FileNames.{NoneFrom}
-use Rattle.written_paths.proofs.Paths.{metadata_is}
-use Rattle.written_paths.specs.Sessions.{HasNoSlash}
+use Rattle.table_names.proofs.CallerLemmas.{after_metadata, metadata_is}
+use Rattle.table_names.specs.declared.names.Names.{Names}
+use Rattle.table_names.specs.FileNames.{NoneFrom}
+use Rattle.table_names.specs.Sessions.{HasNoSlash}
 use Rattle.manifest_files.specs.declared.entry.Entry.{Entry}
 use Rattle.manifest_files.specs.declared.manifest_fault.ManifestFault.TheVariants as manifest
 use Rattle.manifest_files.specs.declared.manifest_row.ManifestRow.{ManifestRow}
 use Rattle.manifest_files.specs.Entries.{entries_of}
-use Rattle.manifest_rows.specs.declared.commit_numbers.CommitNumbers.{CommitNumbers}
-use Rattle.manifest_writer.proofs.EntryLaws.{manifest_again}
+use Rattle.commit_manifests.specs.declared.commit_numbers.CommitNumbers.{CommitNumbers}
+use Rattle.manifest_writer.proofs.CallerLemmas.{manifest_again}
 use Rattle.table_metadata.specs.declared.metadata_fault.MetadataFault.TheVariants as metadata
 use Rattle.table_metadata.specs.Metadata.{Parts}
 use Rattle.table_state.specs.declared.load_fault.LoadFault.{LoadFault}
 use Rattle.table_state.specs.declared.load_fault.LoadFault.TheVariants as fault
-use Rattle.table_state.specs.Files.{bytes_under, current_schema, entries_in, file_at, manifest_at, schema_with, spec_with}
+use Rattle.table_state.specs.Files.{bytes_under, current_schema, entries_in, file_at, manifest_at}
+use Rattle.table_metadata.specs.ById.{schema_with, spec_with}
 use Rattle.table_state.specs.Live.{entries_at}
-use Rattle.table_state.specs.Paths.{folder_of, name_of}
-use Rattle.table_load.specs.declared.state.State.{State}
-use Rattle.commit_builder.specs.declared.drafts.Draft.{Draft}
+use Rattle.table_names.specs.Paths.{folder_of, name_of}
+use Rattle.table_state.specs.declared.state.State.{State}
+use Rattle.commit_manifests.specs.declared.drafts.Draft.{Draft}
 use Rattle.commit_builder.specs.Commits.{IsSpelled, files_from, next_name, row_in, rows_from, schema_of, text_in}
-use Rattle.commit_builder.specs.Drafts.{spec_in}
-use Rattle.commit_builder.specs.Holding.{entries_of as entries_in_drafts}
+use Rattle.commit_manifests.specs.Drafts.{spec_in}
+use Rattle.commit_manifests.specs.Holding.{entries_of as entries_in_drafts}
 use Rattle.commit_builder.specs.NextVersion.{IsReadable}
-use Rattle.commit_builder.proofs.Every.{IsNumbered, all_read_as_they_were}
+use Rattle.commit_manifests.proofs.CallerLemmas.{IsNumbered, all_read_as_they_were}
 
 -- ---- files
 
@@ -49,7 +49,8 @@ there files name bytes =
     ∙ ap (λ b. cond b (Some bytes) (files_map.get files name)) (is_eq-slice_cmp name name ∙ (bytes_eq-Decides name name).1 refl)
 
 module _ (table location : List ℕ) (later : Files) where
-  pub file_is : (path name bytes : List ℕ) → name_of table location path ≡ Some name → files_map.get later name ≡ Some bytes → file_at table location path later ≡ Ok bytes
+  pub file_is : (path name bytes : List ℕ) → name_of table location path ≡ Some name → files_map.get later name ≡ Some bytes
+      → file_at table location path later ≡ Ok bytes
   unfolding file_at
   file_is path name bytes named stands =
       ap (λ (o : Option (List ℕ)). or_fault (fault.Outside path) o >>= λ n. bytes_under path n later) named
@@ -57,7 +58,8 @@ module _ (table location : List ℕ) (later : Files) where
 
 -- ---- what the metadata has by id
 
-own_id_by : (b : Bool) (id : ℤ) (one spec : Spec) (specs : List Spec) → int_eq one.id id ≡ b → (if b then Some one else spec_with id specs) ≡ Some spec → (spec_with id specs ≡ Some spec → spec.id ≡ id) → spec.id ≡ id
+own_id_by : (b : Bool) (id : ℤ) (one spec : Spec) (specs : List Spec) → int_eq one.id id ≡ b
+    → (if b then Some one else spec_with id specs) ≡ Some spec → (spec_with id specs ≡ Some spec → spec.id ≡ id) → spec.id ≡ id
 own_id_by true id one spec specs is found rest =
     let same : one ≡ spec = cc in
     ap (λ (s : Spec). s.id) (sym same) ∙ grind (arith, ints, is)
@@ -71,7 +73,9 @@ own_id id spec (one ∷ specs) found = own_id_by (int_eq one.id id) id one spec 
 -- ---- a manifest
 
 module _ (p : Parts) (row : ManifestRow) where
-  entries_are : (bytes : List ℕ) (spec : Spec) (schema : TableSchema) (entries : List Entry) → spec_with row.partition_spec_id p.specs ≡ Some spec → schema_with p.current_schema p.schemas ≡ Some schema → entries_of bytes row spec schema ≡ Ok entries → entries_in p row bytes ≡ Ok entries
+  entries_are : (bytes : List ℕ) (spec : Spec) (schema : TableSchema) (entries : List Entry)
+      → spec_with row.partition_spec_id p.specs ≡ Some spec → schema_with p.current_schema p.schemas ≡ Some schema
+      → entries_of bytes row spec schema ≡ Ok entries → entries_in p row bytes ≡ Ok entries
   unfolding entries_in
   entries_are bytes spec schema entries spec_is schema_is read =
       ap (λ (o : Option Spec). or_fault (fault.Manifest row.manifest_path (manifest.Spec row.partition_spec_id)) o >>= λ s. current_schema p >>= λ sc. fault_as (fault.Manifest row.manifest_path) (entries_of bytes row s sc)) spec_is
@@ -82,7 +86,8 @@ module _ (head : State) (numbers : CommitNumbers) (p : Parts) (later : Files) (l
   abbrev Row : Names → Draft → ManifestRow
   Row names draft = row_in head (schema_of head) numbers names draft
 
-  text_is : (draft : Draft) (row : ManifestRow) → row.sequence_number ≡ numbers.seq → IsReadable head draft → IsSpelled head (schema_of head) draft → AllByRecursion (IsNumbered numbers.seq) draft.entries
+  text_is : (draft : Draft) (row : ManifestRow) → row.sequence_number ≡ numbers.seq → IsReadable head draft
+      → IsSpelled head (schema_of head) draft → AllByRecursion (IsNumbered numbers.seq) draft.entries
       → entries_of (text_in head (schema_of head) draft) row (spec_in head.metadata.specs draft.spec) (schema_of head) ≡ Ok draft.entries
   unfolding text_in
   text_is draft row number readable spelled numbered =
@@ -93,7 +98,8 @@ module _ (head : State) (numbers : CommitNumbers) (p : Parts) (later : Files) (l
     abbrev names_at : ℕ → Names
     names_at n = record { run = run; session = session; next = n }
 
-    manifest_is : (n : ℕ) (draft : Draft) → n < 2 ^ 128 → IsReadable head draft → IsSpelled head (schema_of head) draft → AllByRecursion (IsNumbered numbers.seq) draft.entries
+    manifest_is : (n : ℕ) (draft : Draft) → n < 2 ^ 128 → IsReadable head draft → IsSpelled head (schema_of head) draft
+        → AllByRecursion (IsNumbered numbers.seq) draft.entries
         → files_map.get later (next_name head.table (names_at n)) ≡ Some (text_in head (schema_of head) draft)
         → manifest_at head.table p (Row (names_at n) draft) later ≡ Ok draft.entries
     unfolding manifest_at row_in
@@ -115,7 +121,8 @@ module _ (head : State) (numbers : CommitNumbers) (p : Parts) (later : Files) (l
     row_list n [] = []
     row_list n (draft ∷ drafts) = Row (names_at n) draft ∷ row_list (n + 1) drafts
 
-    pub rows_listed : (n : ℕ) (rows : List ManifestRow) (drafts : List Draft) → rows_from head (schema_of head) numbers (names_at n) rows drafts ≡ rows ++ row_list n drafts
+    pub rows_listed : (n : ℕ) (rows : List ManifestRow) (drafts : List Draft)
+        → rows_from head (schema_of head) numbers (names_at n) rows drafts ≡ rows ++ row_list n drafts
     unfolding rows_from
     rows_listed n rows [] = sym (append-nil rows)
     rows_listed n rows (draft ∷ drafts) = rows_listed (n + 1) (rows ++ Row (names_at n) draft ∷ []) drafts ∙ append_assoc rows (Row (names_at n) draft ∷ []) (row_list (n + 1) drafts)
@@ -125,7 +132,9 @@ module _ (head : State) (numbers : CommitNumbers) (p : Parts) (later : Files) (l
     Stand n [] = ⊤
     Stand n (draft ∷ drafts) = (files_map.get later (next_name head.table (names_at n)) ≡ Some (text_in head (schema_of head) draft)) × Stand (n + 1) drafts
 
-    pub keeps_from : (n : ℕ) (drafts : List Draft) (files : Files) → n + length drafts < 2 ^ 128 → NoneFrom head.table run session n files → KeepsFiles (Some files) (Some (files_from head (schema_of head) numbers (names_at n) files drafts))
+    pub keeps_from : (n : ℕ) (drafts : List Draft) (files : Files) → n + length drafts < 2 ^ 128
+        → NoneFrom head.table run session n files → KeepsFiles (Some files)
+        (Some (files_from head (schema_of head) numbers (names_at n) files drafts))
     unfolding files_from
     keeps_from n [] files fits none = λ name bytes stands. stands
     keeps_from n (draft ∷ drafts) files fits none = λ name bytes stands.
@@ -133,7 +142,8 @@ module _ (head : State) (numbers : CommitNumbers) (p : Parts) (later : Files) (l
         keeps_from (n + 1) drafts (with_file (next_name head.table (names_at n)) text files) (omega arith) (after_metadata head.table session text run n files none) name bytes
         (kept-with_file files (next_name head.table (names_at n)) text (none.metadata_free n (omega arith) (omega arith)) name bytes stands)
 
-    pub none_from : (n : ℕ) (drafts : List Draft) (files : Files) → NoneFrom head.table run session n files → NoneFrom head.table run session (n + length drafts) (files_from head (schema_of head) numbers (names_at n) files drafts)
+    pub none_from : (n : ℕ) (drafts : List Draft) (files : Files) → NoneFrom head.table run session n files
+        → NoneFrom head.table run session (n + length drafts) (files_from head (schema_of head) numbers (names_at n) files drafts)
     unfolding files_from
     none_from n [] files none = subst (λ m. NoneFrom head.table run session m files) (omega arith) none
     none_from n (draft ∷ drafts) files none =
@@ -142,7 +152,9 @@ module _ (head : State) (numbers : CommitNumbers) (p : Parts) (later : Files) (l
         let same : (n + 1) + length drafts ≡ n + length (draft ∷ drafts) = omega arith in
         subst (λ m. NoneFrom head.table run session m (files_from head (schema_of head) numbers (names_at (n + 1)) later_files drafts)) same (none_from (n + 1) drafts later_files (after_metadata head.table session text run n files none))
 
-    pub all_stand : (n : ℕ) (drafts : List Draft) (files : Files) → n + length drafts < 2 ^ 128 → NoneFrom head.table run session n files → KeepsFiles (Some (files_from head (schema_of head) numbers (names_at n) files drafts)) (Some later) → Stand n drafts
+    pub all_stand : (n : ℕ) (drafts : List Draft) (files : Files) → n + length drafts < 2 ^ 128
+        → NoneFrom head.table run session n files
+        → KeepsFiles (Some (files_from head (schema_of head) numbers (names_at n) files drafts)) (Some later) → Stand n drafts
     unfolding files_from
     all_stand n [] files fits none keeps = tt
     all_stand n (draft ∷ drafts) files fits none keeps =

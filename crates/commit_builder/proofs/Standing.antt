@@ -4,7 +4,7 @@ use Rattle.std.specs.Prelude.{⊤, if◌then◌else◌}
 use Rattle.std.specs.FinMap as files_map
 use Rattle.std.proofs.lemmas.List.{drop_at, take_at}
 use Rattle.std.proofs.lemmas.List.Elements.{filter-append}
-use Rattle.plain_types.proofs.BagLaws.{total-append}
+use Rattle.plain_types.proofs.CallerLemmas.{total-append, one_value, two_steps}
 use Rattle.plain_types.specs.Bags.{total}
 use Rattle.plain_types.specs.Steps.{◌>>=◌, or_fault}
 use Rattle.row_values.specs.declared.partition.Spec.{Spec}
@@ -12,13 +12,11 @@ use Rattle.row_values.specs.declared.schema.TableSchema.{TableSchema}
 use Rattle.store_core.specs.Files.{Files, KeepsFiles}
 use Rattle.manifest_files.specs.declared.entry.Entry.{Entry}
 use Rattle.manifest_files.specs.declared.manifest_row.ManifestRow.{ManifestRow}
-use Rattle.table_load.proofs.GatheringLaws.{data_joined, deletes_joined}
-use Rattle.table_load.proofs.Parting.{found_head}
-use Rattle.table_load.specs.declared.state.LiveCount.{LiveCount}
-use Rattle.table_load.specs.declared.state.State.{State}
-use Rattle.table_load.specs.Gathering.{count_of, live_data, live_deletes}
-use Rattle.table_load.specs.States.{IsStateOf, counts_at, manifests_of}
-use Rattle.table_metadata.proofs.Coherence.{one_value, two_steps}
+use Rattle.table_state.proofs.CallerLemmas.{data_joined, deletes_joined, found_head}
+use Rattle.table_state.specs.declared.state.LiveCount.{LiveCount}
+use Rattle.table_state.specs.declared.state.State.{State}
+use Rattle.table_state.specs.Gathering.{count_of, live_data, live_deletes}
+use Rattle.table_state.specs.States.{IsStateOf, counts_at, manifests_of}
 use Rattle.table_metadata.specs.Metadata.{Parts, parts}
 use Rattle.table_state.specs.declared.live_set.BranchState.{BranchState}
 use Rattle.table_state.specs.declared.live_set.BranchState.TheVariants as state
@@ -27,12 +25,12 @@ use Rattle.table_state.specs.declared.load_fault.LoadFault.{LoadFault}
 use Rattle.table_state.specs.declared.load_fault.LoadFault.TheVariants as fault
 use Rattle.table_state.specs.Files.{bytes_under, entries_in, file_at, manifest_at}
 use Rattle.table_state.specs.Live.{branch_at, entries_at, is_data, is_live}
-use Rattle.table_state.specs.Paths.{name_of}
+use Rattle.table_names.specs.Paths.{name_of}
 use Rattle.change_sets.specs.declared.change.ChangeSet.{ChangeSet}
 use Rattle.commit_builder.specs.Commits.{live_in, numbers_in, schema_of, sorted_in}
-use Rattle.commit_builder.specs.Holding.{standing_files}
-use Rattle.commit_builder.specs.Drafts.{Drafts, begun, finished}
-use Rattle.commit_builder.specs.Sorting.{Sorted, added_drafts, and_manifest, and_rewritten, has_removed, is_empty, sorted_from, sorted_of}
+use Rattle.commit_manifests.specs.Holding.{standing_files}
+use Rattle.commit_manifests.specs.Drafts.{Drafts, begun, finished}
+use Rattle.commit_manifests.specs.Sorting.{Sorted, added_drafts, and_manifest, and_rewritten, has_removed, is_empty, sorted_from, sorted_of}
 
 -- ---- what each manifest of the head holds
 
@@ -50,7 +48,9 @@ module _ (table : List ℕ) (p : Parts) (files : Files) where
     counted : counts ≡ before ++ own
     known : Known rows own (live_data more) (live_deletes more)
 
-  one_more : (row : ManifestRow) (rows : List ManifestRow) (earlier entries all : List Entry) (before counts : List LiveCount) → manifest_at table p row files ≡ Ok entries → Behind rows (earlier ++ entries) all (before ++ count_of entries ∷ []) counts → Behind (row ∷ rows) earlier all before counts
+  one_more : (row : ManifestRow) (rows : List ManifestRow) (earlier entries all : List Entry) (before counts : List LiveCount)
+      → manifest_at table p row files ≡ Ok entries → Behind rows (earlier ++ entries) all (before ++ count_of entries ∷ []) counts
+      → Behind (row ∷ rows) earlier all before counts
   one_more row rows earlier entries all before counts read b =
       let data_is : live_data (entries ++ b.more) ≡ live_data entries ++ live_data b.more = data_joined entries b.more in
       let deletes_are : live_deletes (entries ++ b.more) ≡ live_deletes entries ++ live_deletes b.more = deletes_joined entries b.more in
@@ -66,7 +66,9 @@ module _ (table : List ℕ) (p : Parts) (files : Files) where
         );
       }
 
-  all_known : (earlier : List Entry) (before : List LiveCount) (rows : List ManifestRow) (all : List Entry) (counts : List LiveCount) → entries_at table p earlier rows files ≡ Ok all → counts_at table p before rows files ≡ Ok counts → Behind rows earlier all before counts
+  all_known : (earlier : List Entry) (before : List LiveCount) (rows : List ManifestRow) (all : List Entry)
+      (counts : List LiveCount) → entries_at table p earlier rows files ≡ Ok all → counts_at table p before rows files ≡ Ok counts
+      → Behind rows earlier all before counts
   unfolding entries_at counts_at
   all_known earlier before [] all counts e c =
       let read : earlier ≡ all = cc in
@@ -79,13 +81,16 @@ module _ (table : List ℕ) (p : Parts) (files : Files) where
       one_more row rows earlier read.0 all before counts read.1
       (all_known (earlier ++ read.0) (before ++ count_of read.0 ∷ []) rows all counts read.2 (subst (λ entries. counts_at table p (before ++ count_of entries ∷ []) rows files ≡ Ok counts) same counted.2))
 
-  pub listed_known : (rows : List ManifestRow) (all : List Entry) (counts : List LiveCount) → entries_at table p [] rows files ≡ Ok all → counts_at table p [] rows files ≡ Ok counts → Known rows counts (live_data all) (live_deletes all)
+  pub listed_known : (rows : List ManifestRow) (all : List Entry) (counts : List LiveCount)
+      → entries_at table p [] rows files ≡ Ok all → counts_at table p [] rows files ≡ Ok counts
+      → Known rows counts (live_data all) (live_deletes all)
   listed_known rows all counts e c =
       let b = all_known [] [] rows all counts e c in
       subst (λ (cs : List LiveCount). Known rows cs (live_data all) (live_deletes all)) (sym b.counted) (subst (λ (xs : List Entry). Known rows b.own (live_data xs) (live_deletes xs)) (sym b.joined) b.known)
 
 module _ (table branch : List ℕ) (version : ℕ) (files : Files) (loaded : State) (is : IsStateOf table version branch files loaded) where
-  known_by : (head : BranchState) → loaded.head ≡ head → Known table (parts loaded.metadata) files (manifests_of head) loaded.held (live_in head).data_files (live_in head).deletes
+  known_by : (head : BranchState) → loaded.head ≡ head
+      → Known table (parts loaded.metadata) files (manifests_of head) loaded.held (live_in head).data_files (live_in head).deletes
   known_by state.Absent h = tt
   known_by state.Empty h = tt
   known_by (state.Head snapshot rows live) h =
@@ -98,11 +103,14 @@ module _ (table branch : List ℕ) (version : ℕ) (files : Files) (loaded : Sta
 
 -- ---- what was read is read again
 
-kept_by : (f : LoadFault) (now later : Option (List ℕ)) (bytes : List ℕ) → ((b : List ℕ) → now ≡ Some b → later ≡ Some b) → or_fault f now ≡ Ok bytes → or_fault f later ≡ Ok bytes
+kept_by : (f : LoadFault) (now later : Option (List ℕ)) (bytes : List ℕ) → ((b : List ℕ) → now ≡ Some b → later ≡ Some b)
+    → or_fault f now ≡ Ok bytes → or_fault f later ≡ Ok bytes
 kept_by f (Some b) later bytes keeps e = ap (or_fault f) (keeps b refl) ∙ e
 kept_by f None later bytes keeps e = cc
 
-file_kept_by : (path : List ℕ) (now later : Files) (name : Option (List ℕ)) (bytes : List ℕ) → KeepsFiles (Some now) (Some later) → (or_fault (fault.Outside path) name >>= λ n. bytes_under path n now) ≡ Ok bytes → (or_fault (fault.Outside path) name >>= λ n. bytes_under path n later) ≡ Ok bytes
+file_kept_by : (path : List ℕ) (now later : Files) (name : Option (List ℕ)) (bytes : List ℕ) → KeepsFiles (Some now) (Some later)
+    → (or_fault (fault.Outside path) name >>= λ n. bytes_under path n now) ≡ Ok bytes
+    → (or_fault (fault.Outside path) name >>= λ n. bytes_under path n later) ≡ Ok bytes
 file_kept_by path now later (Some name) bytes keeps e = kept_by (fault.Missing path) (files_map.get now name) (files_map.get later name) bytes (λ b. keeps name b) e
 file_kept_by path now later None bytes keeps e = cc
 
@@ -122,12 +130,14 @@ kept_rows removed (row ∷ rows) (count ∷ counts) data_files deletes =
     ++ kept_rows removed rows counts (drop count.data_files data_files) (drop count.deletes deletes)
 
 module _ (specs : List Spec) (schema : TableSchema) (removed : List Entry) (snapshot : ℤ) where
-  one_stands : (b c : Bool) (s : Sorted) (row : ManifestRow) (d : Drafts) → (if b then record s { drafts = d } else if c then s else record s { standing = s.standing ++ row ∷ [] }).standing ≡ s.standing ++ own_row b c row
+  one_stands : (b c : Bool) (s : Sorted) (row : ManifestRow) (d : Drafts)
+      → (if b then record s { drafts = d } else if c then s else record s { standing = s.standing ++ row ∷ [] }).standing ≡ s.standing ++ own_row b c row
   one_stands true c s row d = sym (append-nil s.standing)
   one_stands false true s row d = sym (append-nil s.standing)
   one_stands false false s row d = refl
 
-  pub standing_is : (s : Sorted) (rows : List ManifestRow) (counts : List LiveCount) (data_files deletes : List Entry) → (sorted_from specs schema removed snapshot s rows counts data_files deletes).standing ≡ s.standing ++ kept_rows removed rows counts data_files deletes
+  pub standing_is : (s : Sorted) (rows : List ManifestRow) (counts : List LiveCount) (data_files deletes : List Entry)
+      → (sorted_from specs schema removed snapshot s rows counts data_files deletes).standing ≡ s.standing ++ kept_rows removed rows counts data_files deletes
   unfolding sorted_from
   standing_is s [] counts data_files deletes = sym (append-nil s.standing)
   standing_is s (row ∷ rows) [] data_files deletes = sym (append-nil s.standing)
@@ -141,7 +151,8 @@ module _ (specs : List Spec) (schema : TableSchema) (removed : List Entry) (snap
       ∙ append_assoc s.standing row_own rest
 
 -- those of the head's that stand in a commit's list
-pub standing_in : (head : State) (change : ChangeSet) → (sorted_in head change).standing ≡ kept_rows change.removed (manifests_of head.head) head.held (live_in head.head).data_files (live_in head.head).deletes
+pub standing_in : (head : State) (change : ChangeSet)
+    → (sorted_in head change).standing ≡ kept_rows change.removed (manifests_of head.head) head.held (live_in head.head).data_files (live_in head.head).deletes
 unfolding sorted_of
 standing_in head change = standing_is head.metadata.specs (schema_of head) change.removed (numbers_in head).snapshot (record { drafts = added_drafts head.metadata.specs (schema_of head) (numbers_in head) change; standing = [] }) (manifests_of head.head) head.held (live_in head.head).data_files (live_in head.head).deletes
 
@@ -160,7 +171,11 @@ second_of true b h = h
 second_of false b h = absurd (true≢false (sym h))
 
 module _ (w : Entry → ℕ) where
-  split_by : (b : Bool) (entry : Entry) (entries : List Entry) → total w (filter is_data entries) + total w (filter (λ entry. not (is_data entry)) entries) ≡ total w entries → total w (cond b (entry ∷ filter is_data entries) (filter is_data entries)) + total w (cond (not b) (entry ∷ filter (λ entry. not (is_data entry)) entries) (filter (λ entry. not (is_data entry)) entries)) ≡ w entry + total w entries
+  split_by : (b : Bool) (entry : Entry) (entries : List Entry)
+      → total w (filter is_data entries) + total w (filter (λ entry. not (is_data entry)) entries) ≡ total w entries
+      → total w (cond b (entry ∷ filter is_data entries) (filter is_data entries)) + total w (cond (not b)
+      (entry ∷ filter (λ entry. not (is_data entry)) entries)
+      (filter (λ entry. not (is_data entry)) entries)) ≡ w entry + total w entries
   split_by true entry entries h = omega (arith, h)
   split_by false entry entries h = omega (arith, h)
 
@@ -185,7 +200,8 @@ module _ (table : List ℕ) (p q : Parts) (now later : Files) (keeps : KeepsFile
     pub weighed : total w (filter is_live more) ≡ total w held
 
   module _ (w : Entry → ℕ) where
-    one_again : (b c : Bool) (earlier : List Entry) (row : ManifestRow) (own own_deletes : List Entry) (kept : List ManifestRow) (held : List Entry) → (is_empty own && is_empty own_deletes) ≡ c
+    one_again : (b c : Bool) (earlier : List Entry) (row : ManifestRow) (own own_deletes : List Entry) (kept : List ManifestRow)
+        (held : List Entry) → (is_empty own && is_empty own_deletes) ≡ c
         → ((entries : List Entry) × (manifest_at table p row now ≡ Ok entries) × (own ≡ live_data entries) × (own_deletes ≡ live_deletes entries))
         → ((before : List Entry) → Again w before kept held)
         → Again w earlier (own_row b c row ++ kept) ((if b then [] else own ++ own_deletes) ++ held)
@@ -220,7 +236,10 @@ module _ (table : List ℕ) (p q : Parts) (now later : Files) (keeps : KeepsFile
           );
         }
 
-    pub all_again : (removed earlier : List Entry) (rows : List ManifestRow) (counts : List LiveCount) (data_files deletes : List Entry) → Known table p now rows counts data_files deletes → Again w earlier (kept_rows removed rows counts data_files deletes) (standing_files removed rows counts data_files deletes)
+    pub all_again : (removed earlier : List Entry) (rows : List ManifestRow) (counts : List LiveCount)
+        (data_files deletes : List Entry) → Known table p now rows counts data_files deletes
+        → Again w earlier (kept_rows removed rows counts data_files deletes)
+        (standing_files removed rows counts data_files deletes)
     unfolding entries_at standing_files
     all_again removed earlier [] counts data_files deletes known = record { more = []; read = ap (λ (es : List Entry). Ok es) (sym (append-nil earlier)); weighed = refl }
     all_again removed earlier (row ∷ rows) [] data_files deletes known = absurd known

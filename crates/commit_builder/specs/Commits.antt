@@ -6,27 +6,27 @@ use Rattle.std.specs.List.{AllByRecursion}
 use Rattle.plain_types.specs.Steps.{by_option}
 use Rattle.row_values.specs.declared.schema.TableSchema.{TableSchema}
 use Rattle.store_core.specs.Files.{Files, with_file}
-use Rattle.file_names.specs.declared.names.Names.{Names}
-use Rattle.file_names.specs.FileNames.{metadata_name, writer_text}
+use Rattle.table_names.specs.declared.names.Names.{Names}
+use Rattle.table_names.specs.FileNames.{metadata_name, writer_text}
 use Rattle.manifest_files.specs.declared.manifest_row.ManifestRow.{ManifestRow}
-use Rattle.manifest_rows.specs.declared.commit_numbers.CommitNumbers.{CommitNumbers}
-use Rattle.manifest_rows.specs.Rows.{row_of}
+use Rattle.commit_manifests.specs.declared.commit_numbers.CommitNumbers.{CommitNumbers}
+use Rattle.commit_manifests.specs.Rows.{row_of}
 use Rattle.manifest_writer.specs.EntryDatum.{manifest_text, IsEntry}
 use Rattle.manifest_writer.specs.ListDatum.{list_text, IsRow}
 use Rattle.table_metadata.specs.declared.snapshots.Snapshot.{Snapshot}
 use Rattle.table_state.specs.declared.live_set.BranchState.{BranchState}
 use Rattle.table_state.specs.declared.live_set.BranchState.TheVariants as state
 use Rattle.table_state.specs.declared.live_set.LiveSet.{LiveSet}
-use Rattle.table_state.specs.Files.{schema_with}
-use Rattle.table_state.specs.Paths.{folder_of}
-use Rattle.table_load.specs.declared.state.State.{State}
-use Rattle.table_load.specs.States.{manifests_of}
+use Rattle.table_metadata.specs.ById.{schema_with}
+use Rattle.table_names.specs.Paths.{folder_of}
+use Rattle.table_state.specs.declared.state.State.{State}
+use Rattle.table_state.specs.States.{manifests_of}
 use Rattle.change_sets.specs.declared.change.AddedAs.{AddedAs}
 use Rattle.change_sets.specs.declared.change.ChangeSet.{ChangeSet}
-use Rattle.commit_builder.specs.declared.drafts.Draft.{Draft}
-use Rattle.commit_builder.specs.Drafts.{spec_in}
+use Rattle.commit_manifests.specs.declared.drafts.Draft.{Draft}
+use Rattle.commit_manifests.specs.Drafts.{spec_in}
 use Rattle.commit_builder.specs.SnapshotIds.{ids_of, next_id}
-use Rattle.commit_builder.specs.Sorting.{Sorted, sorted_of, is_empty}
+use Rattle.commit_manifests.specs.Sorting.{Sorted, sorted_of, is_empty}
 
 -- ---- the head
 

@@ -1,8 +1,7 @@
 pub mod Commits
-pub mod Drafts
-pub mod Holding
+pub mod Contents
 pub mod NextVersion
+pub mod OneTable
 pub mod Preparing
 pub mod Puts
 pub mod SnapshotIds
-pub mod Sorting

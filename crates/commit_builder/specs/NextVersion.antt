@@ -5,26 +5,26 @@ use Rattle.std.specs.List.{AllByRecursion, list_all}
 use Rattle.std.specs.Str.{IsUtf8}
 use Rattle.plain_types.specs.Bags.{SameBag}
 use Rattle.row_values.specs.declared.partition.Spec.{Spec}
-use Rattle.column_bounds.specs.Bounds.{is_kind}
+use Rattle.kind_values.specs.Bounds.{is_kind}
 use Rattle.store_core.specs.Files.{Files}
-use Rattle.file_names.specs.declared.names.Names.{Names}
-use Rattle.written_paths.specs.Sessions.{HasNoSlash}
+use Rattle.table_names.specs.declared.names.Names.{Names}
+use Rattle.table_names.specs.Sessions.{HasNoSlash}
 use Rattle.manifest_files.specs.declared.entry.Entry.{Entry}
 use Rattle.manifest_writer.specs.ListDatum.{is_listed}
 use Rattle.manifest_writer.specs.Readable.{CanBeWritten, IsWritableSpec, is_written}
-use Rattle.metadata_writer.specs.Fitting.{IsInt, IsLong}
+use Rattle.iceberg_schema.specs.Widths.{IsInt, IsLong}
 use Rattle.metadata_writer.specs.PartsAfter.{CanFollow, parts_after}
 use Rattle.table_metadata.specs.Metadata.{Parts, parts}
 use Rattle.table_state.specs.declared.live_set.BranchState.TheVariants as state
 use Rattle.table_state.specs.declared.live_set.LiveSet.{LiveSet}
-use Rattle.table_state.specs.Files.{schema_with, spec_with}
+use Rattle.table_metadata.specs.ById.{schema_with, spec_with}
 use Rattle.table_state.specs.Live.{branch_at, is_data}
-use Rattle.table_load.specs.declared.state.State.{State}
+use Rattle.table_state.specs.declared.state.State.{State}
 use Rattle.change_sets.specs.declared.change.ChangeSet.{ChangeSet}
 use Rattle.change_sets.specs.Laid.{as_kept, laid}
-use Rattle.commit_builder.specs.declared.drafts.Draft.{Draft}
+use Rattle.commit_manifests.specs.declared.drafts.Draft.{Draft}
 use Rattle.commit_builder.specs.Commits.{drafts_in, live_in, numbers_in, parent_of, rows_in, schema_of, snapshot_in}
-use Rattle.commit_builder.specs.Drafts.{spec_in}
+use Rattle.commit_manifests.specs.Drafts.{spec_in}
 use Rattle.commit_builder.specs.SnapshotIds.{ids_of, last}
 
 -- a manifest whose entries are of a spec of the table, and hold what a manifest can hold
@@ -57,7 +57,8 @@ pub record HoldsChange (head : State) (change : ChangeSet) (names : Names) (now 
   pub branch : branch_at head.table (next_parts head change names now) head.branch later ≡ Ok (state.Head (snapshot_in head change names now).id (rows_in head change names) live)
   pub of_data : IsTrue (list_all is_data live.data_files)
   pub of_deletes : IsTrue (list_all (λ entry. not (is_data entry)) live.deletes)
-  pub laid : SameBag (map as_kept (live.data_files ++ live.deletes)) (map as_kept ((laid (numbers_in head) (live_in head.head) change).data_files ++ (laid (numbers_in head) (live_in head.head) change).deletes))
+  pub laid : SameBag (map as_kept (live.data_files ++ live.deletes))
+      (map as_kept ((laid (numbers_in head) (live_in head.head) change).data_files ++ (laid (numbers_in head) (live_in head.head) change).deletes))
 
 -- the numbers of the head and of the clock are in the ranges of their types, and there is a next sequence number
 pub record HasNumbers (head : State) (now : ℤ) : Type 0 where

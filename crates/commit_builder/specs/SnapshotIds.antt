@@ -1,11 +1,11 @@
 -- The id of a new snapshot (Iceberg specification, "Snapshots"): one above all ids of snapshots and of the snapshots of live
 -- files, or, where there is no greater number, the least positive one that none of them is.
-use Rattle.std.specs.Prelude.{ℤ, pos, ◌+ℤ◌, ◌^◌, ◌-◌, Bool, true, false, int_lt, if◌then◌else◌, List, [], ◌∷◌, ◌++◌, map}
+use Rattle.std.specs.Prelude.{ℤ, pos, ◌+ℤ◌, ◌^◌, ◌-◌, int_lt, if◌then◌else◌, List, [], ◌∷◌, ◌++◌, map}
 use Rattle.std.specs.Int.{int_max}
-use Rattle.std.specs.Ordering.{int_eq}
 use Rattle.manifest_files.specs.declared.entry.Entry.{Entry}
 use Rattle.table_metadata.specs.declared.snapshots.Snapshot.{Snapshot}
 use Rattle.table_state.specs.declared.live_set.LiveSet.{LiveSet}
+use Rattle.commit_manifests.specs.Sorting.{has_id}
 
 abbrev pub snapshot_id : Snapshot → ℤ
 snapshot_id snapshot = snapshot.id
@@ -20,10 +20,6 @@ ids_of snapshots live = (map snapshot_id snapshots ++ map entry_snapshot live.da
 unfoldable pub greatest : ℤ → List ℤ → ℤ
 greatest best [] = best
 greatest best (id ∷ ids) = greatest (int_max id best) ids
-
-unfoldable pub has_id : ℤ → List ℤ → Bool
-has_id id [] = false
-has_id id (one ∷ ids) = if int_eq one id then true else has_id id ids
 
 abbrev pub last : ℤ
 last = pos (2 ^ 63 - 1)

@@ -4,33 +4,45 @@ ghost use Rattle.std.specs.List.{AllByRecursion};
 ghost use Rattle.std.specs.Option.{ForSome};
 ghost use Rattle.plain_types.specs.Causes.{HasCause};
 ghost use Rattle.store_core.specs.Files.{KeepsFiles, with_file};
-ghost use Rattle.file_names.specs.FileNames.{NoneFrom, writer_text};
+ghost use Rattle.table_names.specs.FileNames.{NoneFrom, writer_text};
 ghost use Rattle.manifest_writer.specs.ListDatum.{list_text, IsRow};
-ghost use Rattle.table_state.specs.Paths.{folder_of};
-ghost use Rattle.commit_builder.specs.Commits.{AreSpelled, IsSpelled, drafts_in, drawn, files_after, list_names, next_name, numbers_in, operation_of, manifests_after, rows_in, schema_in, schema_of, snapshot_at};
+ghost use Rattle.table_names.specs.Paths.{folder_of};
+ghost use Rattle.commit_builder.specs.Commits.{
+  AreSpelled,
+  IsSpelled,
+  drafts_in,
+  drawn,
+  files_after,
+  list_names,
+  next_name,
+  numbers_in,
+  operation_of,
+  manifests_after,
+  rows_in,
+  schema_in,
+  schema_of,
+  snapshot_at,
+};
 ghost use Rattle.commit_builder.specs.Preparing.{Prepares, PreparesBy};
-ghost use Rattle.commit_builder.specs.Puts.{LeavesOthers};
+ghost use Rattle.commit_builder.specs.Puts.{PutsManifests};
 ghost use Rattle.commit_builder.specs.SnapshotIds.{last};
-ghost use Rattle.commit_builder.specs.Sorting.{seen_sorted, sorted_of};
-ghost use Rattle.table_load.specs.States.{manifests_of};
+ghost use Rattle.commit_manifests.specs.Sorting.{seen_sorted, sorted_of};
+ghost use Rattle.table_state.specs.States.{manifests_of};
 
 use crate::head::{live_in, manifests_of, no_files, numbers_of, parent_of};
-use crate::sorting::{Commit, Sorted};
 use crate::writing::{put_manifests, put_next};
 use change_sets::{AddedAs, ChangeSet, Plan};
-use file_names::Names;
+use commit_manifests::{Commit, CommitNumbers, Sorted};
 use manifest_files::ManifestRow;
-use manifest_rows::CommitNumbers;
 use manifest_writer::write_list;
 use metadata_writer::text_with_snapshot;
 use plain_types::{List, Text};
 use row_values::TableSchema;
 use std::alloc::{AllocError, Global};
 use store_core::{Blob, Store};
-use table_load::State;
-use table_metadata::Snapshot;
-use table_names::version_name;
-use table_state::{LiveSet, LoadFault, folder_of, schema_with};
+use table_metadata::{Snapshot, schema_with};
+use table_names::{Names, folder_of, version_name};
+use table_state::{LiveSet, LoadFault, State};
 
 /// The metadata of the next version, which isn't in the store yet.
 #[derive(Debug, Drop)]
@@ -71,7 +83,7 @@ fn put_list<S: Store>(
     ensures session { (names.new.run ≡ names.old.run) × (names.new.session ≡ names.old.session) }
     ensures raised { (names.old.next ≤ names.new.next) × (names.new.next ≤ names.old.next + 1) }
     ensures free { ForSome (S.files store.new) (NoneFrom head.now.table names.new.run names.new.session names.new.next) }
-    ensures others { LeavesOthers head.now.table names.old (S.files store.old) (S.files store.new) }
+    ensures others { PutsManifests head.now.table names.old (S.files store.old) (S.files store.new) }
     ensures told { is_some (S.files store.new) ≡ is_some (S.files store.old) }
     ensures kept { KeepsFiles (S.files store.old) (S.files store.new) }
     ensures reads { S.reads store.new ≡ S.reads store.old }
@@ -130,7 +142,7 @@ fn put_rows<S: Store>(
     ensures session { (names.new.run ≡ names.old.run) × (names.new.session ≡ names.old.session) }
     ensures raised { (names.old.next ≤ names.new.next) × (names.new.next ≤ names.old.next + 2 ^ 64) }
     ensures free { ForSome (S.files store.new) (NoneFrom head.now.table names.new.run names.new.session names.new.next) }
-    ensures others { LeavesOthers head.now.table names.old (S.files store.old) (S.files store.new) }
+    ensures others { PutsManifests head.now.table names.old (S.files store.old) (S.files store.new) }
     ensures told { is_some (S.files store.new) ≡ is_some (S.files store.old) }
     ensures kept { KeepsFiles (S.files store.old) (S.files store.new) }
     ensures reads { S.reads store.new ≡ S.reads store.old }
@@ -173,7 +185,7 @@ fn put_files<S: Store>(
     ensures session { (names.new.run ≡ names.old.run) × (names.new.session ≡ names.old.session) }
     ensures raised { (names.old.next ≤ names.new.next) × (names.new.next ≤ names.old.next + 2 ^ 100) }
     ensures free { ForSome (S.files store.new) (NoneFrom head.now.table names.new.run names.new.session names.new.next) }
-    ensures others { LeavesOthers head.now.table names.old (S.files store.old) (S.files store.new) }
+    ensures others { PutsManifests head.now.table names.old (S.files store.old) (S.files store.new) }
     ensures told { is_some (S.files store.new) ≡ is_some (S.files store.old) }
     ensures kept { KeepsFiles (S.files store.old) (S.files store.new) }
     ensures reads { S.reads store.new ≡ S.reads store.old }
@@ -281,7 +293,7 @@ pub fn prepare<S: Store>(
     ensures session { (names.new.run ≡ names.old.run) × (names.new.session ≡ names.old.session) }
     ensures raised { (names.old.next ≤ names.new.next) × (names.new.next ≤ names.old.next + 2 ^ 100) }
     ensures free { ForSome (S.files store.new) (NoneFrom head.now.table names.new.run names.new.session names.new.next) }
-    ensures others { LeavesOthers head.now.table names.old (S.files store.old) (S.files store.new) }
+    ensures others { PutsManifests head.now.table names.old (S.files store.old) (S.files store.new) }
     ensures told { is_some (S.files store.new) ≡ is_some (S.files store.old) }
     ensures kept { KeepsFiles (S.files store.old) (S.files store.new) }
     ensures reads { S.reads store.new ≡ S.reads store.old }

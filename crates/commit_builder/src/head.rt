@@ -2,16 +2,15 @@
 ghost use Rattle.std.specs.Prelude.{◌≡◌, true, int_lt, IfOk, []};
 ghost use Rattle.commit_builder.specs.Commits.{live_in, numbers_of, parent_of};
 ghost use Rattle.commit_builder.specs.SnapshotIds.{last};
-ghost use Rattle.table_load.specs.States.{manifests_of};
+ghost use Rattle.table_state.specs.States.{manifests_of};
 
 use crate::snapshot_ids::next_snapshot_id;
 use change_sets::AddedAs;
 use manifest_files::ManifestRow;
 use plain_types::List;
 use std::alloc::{AllocError, Global};
-use table_load::State;
 use table_metadata::Metadata;
-use table_state::{BranchState, LiveSet};
+use table_state::{BranchState, LiveSet, State};
 
 /// The manifests of a head, where there is one.
 pub(crate) fn manifests_of(head: &BranchState) -> &[ManifestRow]

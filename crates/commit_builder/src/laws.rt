@@ -6,27 +6,29 @@ ghost use Rattle.row_values.specs.declared.partition.Spec.{Spec};
 ghost use Rattle.row_values.specs.declared.schema.TableSchema.{TableSchema};
 ghost use Rattle.manifest_files.specs.declared.manifest_row.ManifestRow.{ManifestRow};
 ghost use Rattle.table_state.specs.declared.live_set.LiveSet.{LiveSet as Live};
-ghost use Rattle.table_load.specs.declared.state.LiveCount.{LiveCount as Count};
+ghost use Rattle.table_state.specs.declared.state.LiveCount.{LiveCount as Count};
 ghost use Rattle.change_sets.specs.declared.change.AddedAs.{AddedAs};
 ghost use Rattle.change_sets.specs.declared.change.ChangeSet.{ChangeSet};
 ghost use Rattle.change_sets.specs.Laid.{as_kept, laid};
-ghost use Rattle.file_names.specs.declared.names.Names.{Names as Drawn};
-ghost use Rattle.file_names.specs.FileNames.{NoneFrom};
+ghost use Rattle.table_names.specs.declared.names.Names.{Names as Drawn};
+ghost use Rattle.table_names.specs.FileNames.{NoneFrom};
 ghost use Rattle.metadata_writer.specs.PartsAfter.{CanFollow};
 ghost use Rattle.table_metadata.specs.Metadata.{parts};
 ghost use Rattle.store_core.specs.Files.{Files, KeepsFiles};
-ghost use Rattle.table_load.specs.declared.state.State.{State as Loaded};
-ghost use Rattle.table_load.specs.States.{IsParted, IsStateOf};
+ghost use Rattle.table_state.specs.declared.state.State.{State as Loaded};
+ghost use Rattle.table_state.specs.States.{IsParted, IsStateOf};
 ghost use Rattle.commit_builder.specs.Commits.{AreSpelled, drafts_in, files_after, snapshot_in};
-ghost use Rattle.commit_builder.specs.Holding.{held_after};
+ghost use Rattle.commit_manifests.specs.Holding.{held_after};
 ghost use Rattle.commit_builder.specs.NextVersion.{AreNames, CanBeAdded, CanBeLaid, CanBeRewritten, HasNumbers, HoldsChange};
-ghost use Rattle.commit_builder.specs.SnapshotIds.{has_id, next_id};
+ghost use Rattle.commit_builder.specs.SnapshotIds.{next_id};
+ghost use Rattle.commit_manifests.specs.Sorting.{has_id};
 
 /// The manifests of a commit, those that are written and those that stand, hold live the files of the head with the change
 /// laid on them, each once, in some order and with some status, where each manifest of the head holds as many as is said.
 pub fn a_commit_holds_the_change()
     ensures { (specs : Seq Spec) (schema : TableSchema) (numbers : AddedAs) (change : ChangeSet) (rows : Seq ManifestRow) (counts : Seq Count) (live : Live) → IsParted rows counts live.data_files live.deletes
-        → SameBag (map as_kept (held_after specs schema numbers change rows counts live)) (map as_kept ((laid numbers live change).data_files ++ (laid numbers live change).deletes)) }
+        → SameBag (map as_kept (held_after specs schema numbers change rows counts live))
+        (map as_kept ((laid numbers live change).data_files ++ (laid numbers live change).deletes)) }
 {}
 
 /// The id of a new snapshot is none of those that are there, where there are fewer than 2^62.
@@ -39,14 +41,16 @@ pub fn the_next_id_is_new()
 /// names of the session are free, and what is written can be read again.
 pub fn a_prepared_version_holds_the_change()
     ensures { (head : Loaded) (change : ChangeSet) (names : Drawn) (now : ℤ) (version : ℕ) (old files later : Files) → IsStateOf head.table version head.branch old head → KeepsFiles (Some old) (Some files)
-        → NoneFrom head.table names.run names.session names.next files → AreNames names → length (drafts_in head change) < 2 ^ 100 → AreSpelled head change names → CanBeLaid head change names now
+        → NoneFrom head.table names.run names.session names.next files → AreNames names → length (drafts_in head change) < 2 ^ 100
+        → AreSpelled head change names → CanBeLaid head change names now
         → KeepsFiles (Some (files_after head change names files)) (Some later) → HoldsChange head change names now later }
 {}
 
 /// The snapshot of a commit can follow those of its head, where the numbers are in the ranges of their types and there are
 /// fewer than 2^62 ids.
 pub fn a_commit_can_follow()
-    ensures { (head : Loaded) (change : ChangeSet) (names : Drawn) (now : ℤ) → HasNumbers head now → CanFollow (snapshot_in head change names now) now (parts head.metadata) }
+    ensures { (head : Loaded) (change : ChangeSet) (names : Drawn) (now : ℤ) → HasNumbers head now
+        → CanFollow (snapshot_in head change names now) now (parts head.metadata) }
 {}
 
 /// A change can be laid on a head that was read, where the table has its schema and specs that can be written, and each added

@@ -1,6 +1,7 @@
 //! The id of a new snapshot.
 ghost use Rattle.std.specs.Prelude.{◌≡◌, ◌++◌, IfOk, OnOk, map, pos};
-ghost use Rattle.commit_builder.specs.SnapshotIds.{above, entry_snapshot, free_from, greatest, has_id, ids_of, next_id, snapshot_id};
+ghost use Rattle.commit_builder.specs.SnapshotIds.{above, entry_snapshot, free_from, greatest, ids_of, next_id, snapshot_id};
+ghost use Rattle.commit_manifests.specs.Sorting.{has_id};
 
 use manifest_files::Entry;
 use plain_types::List;
@@ -50,7 +51,7 @@ fn greatest(ids: &[i64]) -> i64
     best
 }
 
-#[tactic(auto, unfolding(crate::specs::SnapshotIds::has_id))]
+#[tactic(auto, unfolding(commit_manifests::specs::Sorting::has_id))]
 fn has_id(id: i64, ids: &[i64]) -> bool
     ensures { result ≡ has_id id ids.now }
 {

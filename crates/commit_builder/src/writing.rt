@@ -4,24 +4,23 @@ ghost use Rattle.std.specs.List.{AllByRecursion};
 ghost use Rattle.std.specs.Option.{ForSome};
 ghost use Rattle.plain_types.specs.Causes.{HasCause};
 ghost use Rattle.store_core.specs.Files.{KeepsFiles, with_file};
-ghost use Rattle.file_names.specs.FileNames.{NoneFrom};
-ghost use Rattle.manifest_rows.specs.Rows.{row_of};
-ghost use Rattle.table_state.specs.Paths.{folder_of};
+ghost use Rattle.table_names.specs.FileNames.{NoneFrom};
+ghost use Rattle.commit_manifests.specs.Rows.{row_of};
+ghost use Rattle.table_names.specs.Paths.{folder_of};
 ghost use Rattle.commit_builder.specs.Commits.{drawn, files_from, next_name, row_in, rows_from, text_in, IsSpelled};
-ghost use Rattle.commit_builder.specs.Drafts.{spec_in};
-ghost use Rattle.commit_builder.specs.Puts.{LeavesOthers};
+ghost use Rattle.commit_manifests.specs.Drafts.{spec_in};
+ghost use Rattle.commit_builder.specs.Puts.{PutsManifests};
 
-use crate::drafts::{Draft, unpartitioned};
-use file_names::Names;
+use commit_manifests::{CommitNumbers, Draft, row_of, unpartitioned};
 use manifest_files::ManifestRow;
-use manifest_rows::{CommitNumbers, row_of};
 use manifest_writer::write_manifest;
 use plain_types::Text;
 use row_values::{Spec, TableSchema};
 use std::alloc::{AllocError, Global};
 use store_core::Store;
-use table_load::State;
-use table_state::{LoadFault, folder_of, spec_with};
+use table_metadata::spec_with;
+use table_names::{Names, folder_of};
+use table_state::{LoadFault, State};
 
 /// Puts bytes under the next name of a manifest or a list.
 pub(crate) fn put_next<S: Store>(
@@ -36,7 +35,7 @@ pub(crate) fn put_next<S: Store>(
     ensures files { OnOk result (S.files store.new ≡ option_map (with_file (next_name table.now names.old) bytes.now) (S.files store.old)) }
     ensures drawn { names.new ≡ drawn names.old }
     ensures free { ForSome (S.files store.new) (NoneFrom table.now names.new.run names.new.session names.new.next) }
-    ensures others { LeavesOthers table.now names.old (S.files store.old) (S.files store.new) }
+    ensures others { PutsManifests table.now names.old (S.files store.old) (S.files store.new) }
     ensures told { is_some (S.files store.new) ≡ is_some (S.files store.old) }
     ensures kept { KeepsFiles (S.files store.old) (S.files store.new) }
     ensures reads { S.reads store.new ≡ S.reads store.old }
@@ -131,12 +130,13 @@ pub(crate) fn put_manifests<S: Store>(
     requires room { names.old.next < 2 ^ 127 }
     ensures rows { IfOk result (λ rows. rows.items ≡ rows_from head.now schema.now numbers names.old [] drafts.now) }
     ensures spelled { IfOk result (λ rows. AllByRecursion (IsSpelled head.now schema.now) drafts.now) }
-    ensures files { OnOk result (S.files store.new ≡ option_map (λ files. files_from head.now schema.now numbers names.old files drafts.now) (S.files store.old)) }
+    ensures files { OnOk result (S.files store.new ≡ option_map (λ files. files_from head.now schema.now numbers names.old files drafts.now)
+        (S.files store.old)) }
     ensures names { OnOk result (names.new ≡ record names.old { next = names.old.next + length drafts.now }) }
     ensures session { (names.new.run ≡ names.old.run) × (names.new.session ≡ names.old.session) }
     ensures raised { (names.old.next ≤ names.new.next) × (names.new.next ≤ names.old.next + 2 ^ 64) }
     ensures free { ForSome (S.files store.new) (NoneFrom head.now.table names.new.run names.new.session names.new.next) }
-    ensures others { LeavesOthers head.now.table names.old (S.files store.old) (S.files store.new) }
+    ensures others { PutsManifests head.now.table names.old (S.files store.old) (S.files store.new) }
     ensures told { is_some (S.files store.new) ≡ is_some (S.files store.old) }
     ensures kept { KeepsFiles (S.files store.old) (S.files store.new) }
     ensures reads { S.reads store.new ≡ S.reads store.old }

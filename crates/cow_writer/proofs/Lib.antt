@@ -1,6 +1,7 @@
-pub mod CopyLaws
-pub mod NameLaws
-pub mod PieceLaws
-pub mod PutLaws
-pub mod WriteLaws
-pub mod WrittenRows
+pub mod CallerLemmas
+mod CopyLaws
+mod NameLaws
+mod PieceLaws
+mod PutLaws
+mod WriteLaws
+mod WrittenRows

@@ -15,8 +15,8 @@ use Rattle.std.proofs.lemmas.Str.{IsUtf8-append, IsUtf8-from_ascii, is_utf8-from
 use Rattle.std.proofs.lemmas.Str.Ascii.{IsAscii-cons, IsAscii-nil}
 use Rattle.plain_types.specs.Digits.{after_text}
 use Rattle.plain_types.specs.Paths.{is_part, is_path}
-use Rattle.file_names.specs.FileNames.{data_name, named}
-use Rattle.table_state.specs.Paths.{folder_of, name_in, name_of, parts_behind, parts_of, plain_parts}
+use Rattle.table_names.specs.FileNames.{data_name, named}
+use Rattle.table_names.specs.Paths.{folder_of, name_in, name_of, parts_behind, parts_of, plain_parts}
 use Rattle.cow_writer.specs.Reading.{has_no_slash}
 
 skips : (front rest : List ℕ) → after_text front (front ++ rest) ≡ Some rest
@@ -46,7 +46,9 @@ digits_have_no_slash (d ∷ ds) (one, all) = both (not (d == 47)) (has_no_slash 
 number_has_no_slash : (n : ℕ) → n < 2 ^ 128 → has_no_slash (decimal n) ≡ true
 number_has_no_slash n small = digits_have_no_slash (decimal n) (decimal_is_IsNumeral_wide n (omega arith)).0.1
 
-part_by : (b : ℕ) (bytes : List ℕ) (slash : Bool) → (b == 47) ≡ slash → not (b == 47) ≡ true → slice_split (λ c. c == 47) bytes ≡ bytes ∷ [] → cond slash ([] ∷ slice_split (λ c. c == 47) bytes) (onto_first b (slice_split (λ c. c == 47) bytes)) ≡ (b ∷ bytes) ∷ []
+part_by : (b : ℕ) (bytes : List ℕ) (slash : Bool) → (b == 47) ≡ slash → not (b == 47) ≡ true
+    → slice_split (λ c. c == 47) bytes ≡ bytes ∷ [] → cond slash ([] ∷ slice_split (λ c. c == 47) bytes)
+    (onto_first b (slice_split (λ c. c == 47) bytes)) ≡ (b ∷ bytes) ∷ []
 part_by b bytes true e h rest = absurd cc
 part_by b bytes false e h rest = ap (onto_first b) rest
 

@@ -22,7 +22,8 @@ module _ (columns : List Column) where
   abbrev Measures : Pieces → Type 0
   Measures p = sum_by (row_size columns) p.piece + p.left ≡ file_bytes
 
-  size_more : (piece : List (List Value)) (row : List Value) → sum_by (row_size columns) (piece ++ row ∷ []) ≡ sum_by (row_size columns) piece + row_size columns row
+  size_more : (piece : List (List Value)) (row : List Value) → sum_by (row_size columns)
+      (piece ++ row ∷ []) ≡ sum_by (row_size columns) piece + row_size columns row
   size_more piece row = sum_by-append (row_size columns) piece (row ∷ []) ∙ ap (λ n. sum_by (row_size columns) piece + n) (sum_by-cons (row_size columns) row [] ∙ (omega arith))
 
   same_test : (used left size : ℕ) → used + left ≡ 2 ^ 24 → nat_le left size ≡ nat_le (2 ^ 24) (used + size)
@@ -31,13 +32,16 @@ module _ (columns : List Column) where
   below_of : (left size : ℕ) → nat_le left size ≡ false → size < left
   below_of left size e = grind (arith, nat_tests)
 
-  same_full : (p : Pieces) (row : List Value) → Measures p → (nat_le p.left (row_size columns row) || nat_le file_rows (length (p.piece ++ row ∷ []))) ≡ is_full columns (p.piece ++ row ∷ [])
+  same_full : (p : Pieces) (row : List Value) → Measures p
+      → (nat_le p.left (row_size columns row) || nat_le file_rows (length (p.piece ++ row ∷ []))) ≡ is_full columns (p.piece ++ row ∷ [])
   same_full p row m =
       ap (λ b. b || nat_le file_rows (length (p.piece ++ row ∷ [])))
       (same_test (sum_by (row_size columns) p.piece) p.left (row_size columns row) m ∙ ap (nat_le file_bytes) (sym (size_more p.piece row)))
 
   -- the files that are closed after all, with these behind them
-  cut_by : (p : Pieces) (row : List Value) (rows : List (List Value)) (full : Bool) → (nat_le p.left (row_size columns row) || nat_le file_rows (length (p.piece ++ row ∷ []))) ≡ full → is_full columns (p.piece ++ row ∷ []) ≡ full → Measures p
+  cut_by : (p : Pieces) (row : List Value) (rows : List (List Value)) (full : Bool)
+      → (nat_le p.left (row_size columns row) || nat_le file_rows (length (p.piece ++ row ∷ []))) ≡ full
+      → is_full columns (p.piece ++ row ∷ []) ≡ full → Measures p
       → ((next : Pieces) → Measures next → finished (and_rows columns next rows) ≡ next.closed ++ pieces_from columns next.piece rows)
       → finished (and_rows columns (if full then with_piece (record p { piece = p.piece ++ row ∷ [] }) else record p { piece = p.piece ++ row ∷ []; left = p.left - row_size columns row }) rows)
       ≡ p.closed ++ (if full then (p.piece ++ row ∷ []) ∷ pieces_from columns [] rows else pieces_from columns (p.piece ++ row ∷ []) rows)
@@ -58,7 +62,8 @@ module _ (columns : List Column) where
   pub cut_all : (rows : List (List Value)) → finished (and_rows columns nothing rows) ≡ pieces_of columns rows
   cut_all rows = cut nothing rows (omega arith)
 
-  pub cut_in_two : (p q : Pieces) (xs ys : List (List Value)) → p ≡ and_rows columns nothing xs → q ≡ and_rows columns p ys → finished q ≡ pieces_of columns (xs ++ ys)
+  pub cut_in_two : (p q : Pieces) (xs ys : List (List Value)) → p ≡ and_rows columns nothing xs → q ≡ and_rows columns p ys
+      → finished q ≡ pieces_of columns (xs ++ ys)
   cut_in_two p q xs ys h k = ap finished (k ∙ ap (λ (first : Pieces). and_rows columns first ys) h ∙ sym (fold-append (and_row columns) nothing xs ys)) ∙ cut_all (xs ++ ys)
 
   -- ---- all rows
@@ -67,7 +72,9 @@ module _ (columns : List Column) where
   flat_whole [] = refl
   flat_whole (row ∷ piece) = refl
 
-  flat_by : (piece : List (List Value)) (row : List Value) (rows : List (List Value)) (full : Bool) → flat (pieces_from columns [] rows) ≡ rows → flat (pieces_from columns (piece ++ row ∷ []) rows) ≡ (piece ++ row ∷ []) ++ rows
+  flat_by : (piece : List (List Value)) (row : List Value) (rows : List (List Value)) (full : Bool)
+      → flat (pieces_from columns [] rows) ≡ rows
+      → flat (pieces_from columns (piece ++ row ∷ []) rows) ≡ (piece ++ row ∷ []) ++ rows
       → flat (if full then (piece ++ row ∷ []) ∷ pieces_from columns [] rows else pieces_from columns (piece ++ row ∷ []) rows) ≡ piece ++ row ∷ rows
   flat_by piece row rows true h k = ap (λ more. (piece ++ row ∷ []) ++ more) h ∙ append_assoc piece (row ∷ []) rows
   flat_by piece row rows false h k = k ∙ append_assoc piece (row ∷ []) rows

@@ -4,10 +4,10 @@ use Rattle.std.specs.Option.{ForSome}
 use Rattle.store_core.specs.Files.{Files, KeepsFiles, MayAdd, bytes_of, with_file}
 use Rattle.store_core.specs.declared.store.StoreFault.{StoreFault}
 use Rattle.store_core.specs.declared.store.StoreFault.TheVariants.{Failed, Memory}
-use Rattle.file_names.specs.declared.names.Names.{Names}
-use Rattle.file_names.specs.FileNames.{NoneFrom, data_name}
-use Rattle.file_names.proofs.Apart.{after_data, stays}
-use Rattle.cow_writer.specs.PutNames.{LeavesOthers}
+use Rattle.table_names.specs.declared.names.Names.{Names}
+use Rattle.table_names.specs.FileNames.{NoneFrom, data_name}
+use Rattle.table_names.proofs.CallerLemmas.{after_data, stays}
+use Rattle.cow_writer.specs.PutNames.{PutsDataFiles}
 
 -- ---- the names that are left
 
@@ -21,7 +21,9 @@ module _ (table session : List ℕ) (run n : ℕ) where
   pub free_same : (old new : Option Files) → new ≡ old → ForSome old (NoneFrom table run session n) → ForSome new (NoneFrom table run session (n + 1))
   free_same old new same free = λ told is. behind told (free told (sym same ∙ is))
 
-  pub free_with : (old new : Option Files) (bytes : List ℕ) → new ≡ option_map (with_file (data_name table run session n) bytes) old → ForSome old (NoneFrom table run session n) → ForSome new (NoneFrom table run session (n + 1))
+  pub free_with : (old new : Option Files) (bytes : List ℕ)
+      → new ≡ option_map (with_file (data_name table run session n) bytes) old → ForSome old (NoneFrom table run session n)
+      → ForSome new (NoneFrom table run session (n + 1))
   free_with (Some files) new bytes is free = λ told is_told.
       let both : Some (with_file (data_name table run session n) bytes files) ≡ Some told = sym is ∙ is_told in
       let same : with_file (data_name table run session n) bytes files ≡ told = cc in
@@ -30,27 +32,32 @@ module _ (table session : List ℕ) (run n : ℕ) where
       let both : None ≡ Some told = sym is ∙ is_told in
       absurd cc
 
-  pub free_may : (old new : Option Files) → MayAdd (data_name table run session n) old new → ForSome old (NoneFrom table run session n) → ForSome new (NoneFrom table run session (n + 1))
+  pub free_may : (old new : Option Files) → MayAdd (data_name table run session n) old new
+      → ForSome old (NoneFrom table run session n) → ForSome new (NoneFrom table run session (n + 1))
   free_may old new (inl same) free = free_same old new same free
   free_may old new (inr (bytes, is)) free = free_with old new bytes is free
 
 -- ---- the other names
 
 module _ (table : List ℕ) (names : Names) where
-  pub others_same : (old new : Option Files) → new ≡ old → LeavesOthers table names old new
+  pub others_same : (old new : Option Files) → new ≡ old → PutsDataFiles table names old new
   others_same old new same = λ name other. ap (λ (files : Option Files). bytes_of files name) same
 
-  pub others_with : (old new : Option Files) (bytes : List ℕ) → new ≡ option_map (with_file (data_name table names.run names.session names.next) bytes) old → LeavesOthers table names old new
+  pub others_with : (old new : Option Files) (bytes : List ℕ)
+      → new ≡ option_map (with_file (data_name table names.run names.session names.next) bytes) old
+      → PutsDataFiles table names old new
   others_with (Some files) new bytes is = λ name other.
       ap (λ (held : Option Files). bytes_of held name) is ∙ stays files (data_name table names.run names.session names.next) bytes name (other names.next (omega arith))
   others_with None new bytes is = λ name other. ap (λ (held : Option Files). bytes_of held name) is
 
-  pub others_may : (old new : Option Files) → MayAdd (data_name table names.run names.session names.next) old new → LeavesOthers table names old new
+  pub others_may : (old new : Option Files) → MayAdd (data_name table names.run names.session names.next) old new → PutsDataFiles table names old new
   others_may old new (inl same) = others_same old new same
   others_may old new (inr (bytes, is)) = others_with old new bytes is
 
   -- and under the names that are left, after it
-  pub others_then : (later : Names) (old middle new : Option Files) → later.run ≡ names.run → later.session ≡ names.session → names.next ≤ later.next → LeavesOthers table names old middle → LeavesOthers table later middle new → LeavesOthers table names old new
+  pub others_then : (later : Names) (old middle new : Option Files) → later.run ≡ names.run → later.session ≡ names.session
+      → names.next ≤ later.next → PutsDataFiles table names old middle → PutsDataFiles table later middle new
+      → PutsDataFiles table names old new
   others_then later old middle new run session above first second = λ name other.
       second name (λ n from e. other n (omega arith) (e ∙ ap (λ r. data_name table r later.session n) run ∙ ap (λ (s : List ℕ). data_name table names.run s n) session))
       ∙ first name other
@@ -71,9 +78,13 @@ told_may name old new (inr (bytes, is)) = ap (λ (files : Option Files). is_some
 -- ---- the answers of a put
 
 -- the names behind one that is drawn
-pub free_at : (table : List ℕ) (names later : Names) (files : Option Files) → later ≡ record names { next = names.next + 1 } → ForSome files (NoneFrom table names.run names.session (names.next + 1)) → ForSome files (NoneFrom table later.run later.session later.next)
+pub free_at : (table : List ℕ) (names later : Names) (files : Option Files) → later ≡ record names { next = names.next + 1 }
+    → ForSome files (NoneFrom table names.run names.session (names.next + 1))
+    → ForSome files (NoneFrom table later.run later.session later.next)
 free_at table names later files drawn free = subst (λ (n : Names). ForSome files (NoneFrom table n.run n.session n.next)) (sym drawn) free
 
-pub may_by : {T : Type 0} (fault : StoreFault) (name : List ℕ) (old new : Option Files) → (IsErrOf {T = T} (Err fault) Failed → MayAdd name old new) → (IsErrOf {T = T} (Err fault) Memory → new ≡ old) → MayAdd name old new
+pub may_by : {T : Type 0} (fault : StoreFault) (name : List ℕ) (old new : Option Files)
+    → (IsErrOf {T = T} (Err fault) Failed → MayAdd name old new) → (IsErrOf {T = T} (Err fault) Memory → new ≡ old)
+    → MayAdd name old new
 may_by Failed name old new failed memory = failed refl
 may_by Memory name old new failed memory = inl (memory refl)

@@ -7,7 +7,7 @@ use Rattle.row_values.specs.declared.schema.Column.{Column}
 use Rattle.row_values.specs.declared.value.Value.{Value}
 use Rattle.row_values.specs.Rows.{is_row}
 use Rattle.store_core.specs.Files.{Files, with_file}
-use Rattle.file_names.specs.declared.names.Names.{Names}
+use Rattle.table_names.specs.declared.names.Names.{Names}
 use Rattle.manifest_files.specs.declared.entry.Entry.{Entry}
 use Rattle.row_writer.specs.RowsText.{rows_text}
 use Rattle.table_metadata.specs.declared.metadata.Metadata.{Metadata}
@@ -34,7 +34,9 @@ nothing_left [] few = refl
 nothing_left (x ∷ xs) few = absurd (omega arith)
 
 module _ (m : Metadata) (names later : Names) (entries next all : List Entry) (rest : List Piece) (piece : Piece) (entry : Entry) where
-  pub entries_step : rest ≡ piece ∷ later_of rest → entry ≡ entry_at m names piece → later ≡ behind 1 names → next ≡ entries ++ entry ∷ [] → entries ++ entries_from m names rest ≡ all → next ++ entries_from m later (later_of rest) ≡ all
+  pub entries_step : rest ≡ piece ∷ later_of rest → entry ≡ entry_at m names piece → later ≡ behind 1 names
+      → next ≡ entries ++ entry ∷ [] → entries ++ entries_from m names rest ≡ all
+      → next ++ entries_from m later (later_of rest) ≡ all
   unfolding entries_from
   entries_step is one drawn more h =
       ap (λ xs. xs ++ entries_from m later (later_of rest)) more
@@ -44,7 +46,8 @@ module _ (m : Metadata) (names later : Names) (entries next all : List Entry) (r
       ∙ sym (ap (λ (left : List Piece). entries ++ entries_from m names left) is)
       ∙ h
 
-pub entries_end : (m : Metadata) (names : Names) (entries all : List Entry) (rest : List Piece) → length rest < 1 → entries ++ entries_from m names rest ≡ all → entries ≡ all
+pub entries_end : (m : Metadata) (names : Names) (entries all : List Entry) (rest : List Piece) → length rest < 1
+    → entries ++ entries_from m names rest ≡ all → entries ≡ all
 unfolding entries_from
 entries_end m names entries all rest none h = sym (append-nil entries) ∙ sym (ap (λ (left : List Piece). entries ++ entries_from m names left) (nothing_left rest none)) ∙ h
 
@@ -53,7 +56,10 @@ module _ (columns : List Column) (table : List ℕ) (names later : Names) (rest 
   composed (Some files) f g = refl
   composed None f g = refl
 
-  pub files_step : (old new all : Option Files) → rest ≡ piece ∷ later_of rest → later ≡ behind 1 names → new ≡ option_map (with_file (next_name table names) (rows_text columns piece)) old → option_map (λ files. files_from columns table names files rest) old ≡ all → option_map (λ files. files_from columns table later files (later_of rest)) new ≡ all
+  pub files_step : (old new all : Option Files) → rest ≡ piece ∷ later_of rest → later ≡ behind 1 names
+      → new ≡ option_map (with_file (next_name table names) (rows_text columns piece)) old
+      → option_map (λ files. files_from columns table names files rest) old ≡ all
+      → option_map (λ files. files_from columns table later files (later_of rest)) new ≡ all
   unfolding files_from
   files_step old new all is drawn put h =
       ap (option_map (λ files. files_from columns table later files (later_of rest))) put
@@ -66,13 +72,18 @@ same_files : (old : Option Files) → option_map (λ files. files) old ≡ old
 same_files (Some files) = refl
 same_files None = refl
 
-pub files_end : (columns : List Column) (table : List ℕ) (names : Names) (rest : List Piece) (old all : Option Files) → length rest < 1 → option_map (λ files. files_from columns table names files rest) old ≡ all → old ≡ all
+pub files_end : (columns : List Column) (table : List ℕ) (names : Names) (rest : List Piece) (old all : Option Files)
+    → length rest < 1 → option_map (λ files. files_from columns table names files rest) old ≡ all → old ≡ all
 unfolding files_from
 files_end columns table names rest old all none h =
     sym (same_files old) ∙ sym (ap (λ (left : List Piece). option_map (λ files. files_from columns table names files left) old) (nothing_left rest none)) ∙ h
 
-pub rows_step : (columns : List Column) (rest : List Piece) (piece : Piece) → rest ≡ piece ∷ later_of rest → list_all (list_all (is_row columns)) rest ≡ true → (list_all (is_row columns) piece ≡ true) × (list_all (list_all (is_row columns)) (later_of rest) ≡ true)
+pub rows_step : (columns : List Column) (rest : List Piece) (piece : Piece) → rest ≡ piece ∷ later_of rest
+    → list_all (list_all (is_row columns)) rest ≡ true → (list_all (is_row columns) piece ≡ true)
+    × (list_all (list_all (is_row columns)) (later_of rest) ≡ true)
 rows_step columns rest piece is h = and_parts (list_all (is_row columns) piece) (list_all (list_all (is_row columns)) (later_of rest)) (sym (ap (list_all (list_all (is_row columns))) is) ∙ h)
 
-pub short_step : (columns : List Column) (rest all : List Piece) (piece : Piece) → rest ≡ piece ∷ later_of rest → length (rows_text columns piece) < 2 ^ 63 → (AreShort columns rest → AreShort columns all) → AreShort columns (later_of rest) → AreShort columns all
+pub short_step : (columns : List Column) (rest all : List Piece) (piece : Piece) → rest ≡ piece ∷ later_of rest
+    → length (rows_text columns piece) < 2 ^ 63 → (AreShort columns rest → AreShort columns all)
+    → AreShort columns (later_of rest) → AreShort columns all
 short_step columns rest all piece is short h later = h (subst (AreShort columns) (sym is) (short, later))

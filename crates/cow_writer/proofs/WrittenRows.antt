@@ -15,7 +15,7 @@ use Rattle.change_sets.specs.declared.scanned.Decisions.{Decisions}
 use Rattle.change_sets.specs.declared.scanned.LiveRow.{LiveRow}
 use Rattle.change_sets.specs.declared.scanned.ScannedFile.{ScannedFile}
 use Rattle.change_sets.specs.Scanned.{row_of, rows_in, rows_in_all}
-use Rattle.cow_writer.specs.Deciding.{copied_of, decision_of, decisions_after, hits, is_touched, later_of, left_by, made_by, made_of, own_of, rows_left, written_of}
+use Rattle.change_sets.specs.Deciding.{copied_of, decision_of, decisions_after, hits, is_touched, later_of, left_by, made_by, made_of, own_of, rows_left, written_of}
 
 both : (a b : Bool) → a ≡ true → b ≡ true → (a && b) ≡ true
 both a b h k = rw (h, k) refl
@@ -39,13 +39,15 @@ module _ (columns : List Column) where
 
   -- ---- one row
 
-  next_left : (row : List Value) (decisions : List Decision) → is_row columns row ≡ true → make decisions ≡ true → are (left_by (slice_get decisions 0) row) ≡ true
+  next_left : (row : List Value) (decisions : List Decision) → is_row columns row ≡ true → make decisions ≡ true
+      → are (left_by (slice_get decisions 0) row) ≡ true
   next_left row [] h k = both (is_row columns row) true h refl
   next_left row (Keep ∷ decisions) h k = both (is_row columns row) true h refl
   next_left row (Remove ∷ decisions) h k = refl
   next_left row (Replace new ∷ decisions) h k = both (is_row columns new) true (and_parts (is_row columns new) (make decisions) k).0 refl
 
-  one_left : (row : List Value) (decisions : List Decision) (hit : Bool) → is_row columns row ≡ true → make decisions ≡ true → are (left_by (if hit then slice_get decisions 0 else None) row) ≡ true
+  one_left : (row : List Value) (decisions : List Decision) (hit : Bool) → is_row columns row ≡ true → make decisions ≡ true
+      → are (left_by (if hit then slice_get decisions 0 else None) row) ≡ true
   one_left row decisions true h k = next_left row decisions h k
   one_left row decisions false h k = both (is_row columns row) true h refl
 
@@ -68,7 +70,8 @@ module _ (columns : List Column) where
   touched_are left more true h k = joined left more h k
   touched_are left more false h k = k
 
-  copied_are : (scanned : List ScannedFile) (decisions : List Decision) → are (rows_in_all scanned) ≡ true → make decisions ≡ true → are (copied_of scanned decisions) ≡ true
+  copied_are : (scanned : List ScannedFile) (decisions : List Decision) → are (rows_in_all scanned) ≡ true → make decisions ≡ true
+      → are (copied_of scanned decisions) ≡ true
   unfolding copied_of
   copied_are [] decisions h k = refl
   copied_are (file ∷ files) decisions h k =
@@ -78,7 +81,8 @@ module _ (columns : List Column) where
       (left_are file.rows (own_of file decisions) own.0 made.0)
       (copied_are files (later_of file decisions) own.1 made.1)
 
-  pub written_are : (scanned : List ScannedFile) (decisions : Decisions) → AreRows columns (rows_in_all scanned) → AreRows columns (made_of decisions) → AreRows columns (written_of scanned decisions)
+  pub written_are : (scanned : List ScannedFile) (decisions : Decisions) → AreRows columns (rows_in_all scanned)
+      → AreRows columns (made_of decisions) → AreRows columns (written_of scanned decisions)
   written_are scanned decisions h k =
       let made = and_parts (make decisions.rows) (are decisions.inserted) (sym (list_all-append (is_row columns) (flat_map made_by decisions.rows) decisions.inserted) ∙ k) in
       joined (copied_of scanned decisions.rows) decisions.inserted (copied_are scanned decisions.rows h made.0) made.1

@@ -5,22 +5,22 @@ use Rattle.plain_types.specs.Steps.{by_option}
 use Rattle.row_values.specs.declared.schema.Column.{Column}
 use Rattle.row_values.specs.declared.schema.TableSchema.{TableSchema}
 use Rattle.row_values.specs.declared.value.Value.{Value}
-use Rattle.column_bounds.specs.declared.stats.Stats.{Stats}
+use Rattle.kind_values.specs.declared.stats.Stats.{Stats}
 use Rattle.sql_predicates.specs.declared.pred.Pred.{Pred}
 use Rattle.store_core.specs.Files.{Files, with_file}
-use Rattle.file_names.specs.declared.names.Names.{Names}
-use Rattle.file_names.specs.FileNames.{data_name}
+use Rattle.table_names.specs.declared.names.Names.{Names}
+use Rattle.table_names.specs.FileNames.{data_name}
 use Rattle.manifest_files.specs.declared.entry.Content.TheVariants as content
 use Rattle.manifest_files.specs.declared.entry.Entry.{Entry}
 use Rattle.row_writer.specs.RowsText.{rows_text}
 use Rattle.table_metadata.specs.declared.metadata.Metadata.{Metadata}
-use Rattle.table_state.specs.Files.{schema_with}
-use Rattle.table_state.specs.Paths.{folder_of}
-use Rattle.table_load.specs.declared.state.State.{State}
+use Rattle.table_metadata.specs.ById.{schema_with}
+use Rattle.table_names.specs.Paths.{folder_of}
+use Rattle.table_state.specs.declared.state.State.{State}
 use Rattle.change_sets.specs.declared.change.ChangeSet.{ChangeSet}
 use Rattle.change_sets.specs.declared.scanned.Decisions.{Decisions}
 use Rattle.change_sets.specs.declared.scanned.ScannedFile.{ScannedFile}
-use Rattle.cow_writer.specs.Deciding.{removed_of, written_of}
+use Rattle.change_sets.specs.Deciding.{removed_of, written_of}
 use Rattle.cow_writer.specs.Pieces.{pieces_of}
 
 -- the current schema, which all metadata has

@@ -5,12 +5,12 @@ use Rattle.std.specs.Str.{IsUtf8}
 use Rattle.row_values.specs.declared.schema.Column.{Column}
 use Rattle.row_values.specs.declared.schema.TableSchema.{TableSchema}
 use Rattle.row_values.specs.declared.value.Value.{Value}
-use Rattle.file_names.specs.declared.names.Names.{Names}
+use Rattle.table_names.specs.declared.names.Names.{Names}
 use Rattle.row_writer.specs.Readable.{AreColumns}
 use Rattle.row_writer.specs.RowsText.{rows_text}
 use Rattle.table_metadata.specs.Metadata.{parts}
 use Rattle.table_state.specs.Files.{current_schema}
-use Rattle.table_load.specs.declared.state.State.{State}
+use Rattle.table_state.specs.declared.state.State.{State}
 
 -- A session's name is one part of a path.
 abbrev pub has_no_slash : List ℕ → Bool

@@ -1,12 +1,12 @@
 // What a statement decides of the rows of a file.
 ghost use Rattle.std.specs.Prelude.{◌≡◌, ◌≤◌, length};
 ghost use Rattle.std.specs.Option.{option_copied};
-ghost use Rattle.cow_writer.specs.Deciding.{decision_of, decisions_after, hits, is_touched, touches};
+ghost use Rattle.change_sets.specs.Deciding.{decision_of, decisions_after, hits, is_touched, touches};
 
 use change_sets::{Decision, LiveRow};
 
 // How many of the rows are hit.
-#[tactic(auto, unfolding(crate::specs::Deciding::hits))]
+#[tactic(auto, unfolding(change_sets::specs::Deciding::hits))]
 pub(crate) fn hits(rows: &[LiveRow]) -> usize
     ensures count { result ≡ hits rows.now }
     ensures within { result ≤ length rows.now }

@@ -1,5 +1,8 @@
-//! Writes what copy-on-write leaves: the data files that lose a row are removed, and their other rows are written anew with
-//! the rows that a statement makes.
+//! Copy-on-write: the data files that lose a row are removed, and their other rows are written anew with the rows that a
+//! statement makes.
+//!
+//! The new files hold exactly those rows, in files of at most so many rows and bytes, under names that were free; no other
+//! name of the store is touched.
 #![tactic(auto)]
 
 mod deciding;

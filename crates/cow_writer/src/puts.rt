@@ -3,13 +3,13 @@ ghost use Rattle.std.specs.Prelude.{◌≡◌, ◌<◌, ◌+◌, ◌^◌, ◌⊎
 ghost use Rattle.std.specs.Option.{ForSome};
 ghost use Rattle.plain_types.specs.Causes.{HasCause};
 ghost use Rattle.store_core.specs.Files.{KeepsFiles, with_file};
-ghost use Rattle.file_names.specs.FileNames.{NoneFrom};
+ghost use Rattle.table_names.specs.FileNames.{NoneFrom};
 ghost use Rattle.cow_writer.specs.Copies.{behind, next_name};
-ghost use Rattle.cow_writer.specs.PutNames.{LeavesOthers};
+ghost use Rattle.cow_writer.specs.PutNames.{PutsDataFiles};
 
-use file_names::Names;
 use std::alloc::Global;
 use store_core::Store;
+use table_names::Names;
 use table_state::LoadFault;
 
 /// Puts bytes under the next name of a data file.
@@ -25,7 +25,7 @@ pub(crate) fn put_next<S: Store>(
     ensures files { OnOk result (S.files store.new ≡ option_map (with_file (next_name table.now names.old) bytes.now) (S.files store.old)) }
     ensures drawn { names.new ≡ behind 1 names.old }
     ensures free { ForSome (S.files store.new) (NoneFrom table.now names.new.run names.new.session names.new.next) }
-    ensures others { LeavesOthers table.now names.old (S.files store.old) (S.files store.new) }
+    ensures others { PutsDataFiles table.now names.old (S.files store.old) (S.files store.new) }
     ensures told { is_some (S.files store.new) ≡ is_some (S.files store.old) }
     ensures kept { KeepsFiles (S.files store.old) (S.files store.new) }
     ensures kind { IfErr result (λ f. (f ≡ LoadFault.Store) ⊎ (f ≡ LoadFault.Memory)) }

@@ -1,7 +1,7 @@
 // The files that a statement removes, and the rows that it writes anew.
 ghost use Rattle.std.specs.Prelude.{◌≡◌, ◌∷◌, [], IfOk, OnOk};
 ghost use Rattle.std.specs.Option.{option_copied};
-ghost use Rattle.cow_writer.specs.Deciding.{copied_of, left_by, removed_of, rows_left, written_of};
+ghost use Rattle.change_sets.specs.Deciding.{copied_of, left_by, removed_of, rows_left, written_of};
 ghost use Rattle.cow_writer.specs.Pieces.{and_rows, pieces_of, seen};
 
 use crate::deciding::{decision_of, decisions_after, hits, is_touched};
@@ -13,7 +13,7 @@ use row_values::{Row, TableSchema, copy_row};
 use std::alloc::{AllocError, Global};
 
 /// The files of which a row is removed or replaced.
-#[tactic(auto, unfolding(crate::specs::Deciding::removed_of))]
+#[tactic(auto, unfolding(change_sets::specs::Deciding::removed_of))]
 pub(crate) fn removed_files(
     alloc: Global,
     scanned: &[ScannedFile],
@@ -64,7 +64,7 @@ fn add_left(
 }
 
 // Adds what is left of the rows of a file.
-#[tactic(auto, unfolding(crate::specs::Deciding::rows_left))]
+#[tactic(auto, unfolding(change_sets::specs::Deciding::rows_left))]
 fn add_rows_left(
     alloc: Global,
     schema: &TableSchema,
@@ -85,7 +85,7 @@ fn add_rows_left(
 }
 
 // Adds what is left of the rows of the files that are removed.
-#[tactic(auto, unfolding(crate::specs::Deciding::copied_of))]
+#[tactic(auto, unfolding(change_sets::specs::Deciding::copied_of))]
 fn add_copied(
     alloc: Global,
     schema: &TableSchema,

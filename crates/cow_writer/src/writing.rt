@@ -5,18 +5,29 @@ ghost use Rattle.std.specs.Option.{ForSome};
 ghost use Rattle.plain_types.specs.Causes.{HasCause};
 ghost use Rattle.row_values.specs.Rows.{AreRows, is_row};
 ghost use Rattle.store_core.specs.Files.{KeepsFiles, with_file};
-ghost use Rattle.file_names.specs.FileNames.{NoneFrom};
+ghost use Rattle.table_names.specs.FileNames.{NoneFrom};
 ghost use Rattle.row_writer.specs.RowsText.{rows_text};
-ghost use Rattle.cow_writer.specs.Copies.{behind, change_of, entries_from, entry_at, entry_of, files_after, files_from, next_name, pieces_in, schema_of, stats_of};
-ghost use Rattle.cow_writer.specs.Deciding.{written_of};
-ghost use Rattle.cow_writer.specs.PutNames.{HasRoom, LeavesOthers};
+ghost use Rattle.cow_writer.specs.Copies.{
+  behind,
+  change_of,
+  entries_from,
+  entry_at,
+  entry_of,
+  files_after,
+  files_from,
+  next_name,
+  pieces_in,
+  schema_of,
+  stats_of,
+};
+ghost use Rattle.change_sets.specs.Deciding.{written_of};
+ghost use Rattle.cow_writer.specs.PutNames.{HasRoom, PutsDataFiles};
 ghost use Rattle.cow_writer.specs.Reading.{AreShort};
 
 use crate::puts::put_next;
 use crate::touched::{removed_files, written_pieces};
 use change_sets::{ChangeSet, Decisions, ScannedFile, copy_entry};
-use column_bounds::Stats;
-use file_names::Names;
+use kind_values::Stats;
 use manifest_files::{Content, Entry};
 use plain_types::{List, Text};
 use row_values::{Column, Row, TableSchema};
@@ -24,9 +35,9 @@ use row_writer::write_rows;
 use sql_predicates::Pred;
 use std::alloc::{AllocError, Global};
 use store_core::Store;
-use table_load::State;
-use table_metadata::Metadata;
-use table_state::{LoadFault, folder_of, schema_with};
+use table_metadata::{Metadata, schema_with};
+use table_names::{Names, folder_of};
+use table_state::{LoadFault, State};
 
 /// The current schema, or this one, without columns.
 fn schema_of<'a>(metadata: &'a Metadata, none: &'a TableSchema) -> &'a TableSchema
@@ -93,13 +104,14 @@ fn write_piece<S: Store>(
     requires free { ForSome (S.files store.old) (NoneFrom state.now.table names.old.run names.old.session names.old.next) }
     requires room { names.old.next + 1 < 2 ^ 128 }
     ensures entry { IfOk result (λ entry. entry ≡ entry_at state.now.metadata names.old rows.now) }
-    ensures files { OnOk result (S.files store.new ≡ option_map (with_file (next_name state.now.table names.old) (rows_text schema.now.columns rows.now)) (S.files store.old)) }
+    ensures files { OnOk result (S.files store.new ≡ option_map (with_file (next_name state.now.table names.old)
+        (rows_text schema.now.columns rows.now)) (S.files store.old)) }
     ensures short { OnOk result (length (rows_text schema.now.columns rows.now) < 2 ^ 63) }
     ensures names { OnOk result (names.new ≡ behind 1 names.old) }
     ensures session { (names.new.run ≡ names.old.run) × (names.new.session ≡ names.old.session) }
     ensures raised { (names.old.next ≤ names.new.next) × (names.new.next ≤ names.old.next + 1) }
     ensures free { ForSome (S.files store.new) (NoneFrom state.now.table names.new.run names.new.session names.new.next) }
-    ensures others { LeavesOthers state.now.table names.old (S.files store.old) (S.files store.new) }
+    ensures others { PutsDataFiles state.now.table names.old (S.files store.old) (S.files store.new) }
     ensures told { is_some (S.files store.new) ≡ is_some (S.files store.old) }
     ensures kept { KeepsFiles (S.files store.old) (S.files store.new) }
     ensures kind { IfErr result (λ f. (f ≡ LoadFault.Store) ⊎ (f ≡ LoadFault.Memory)) }
@@ -130,13 +142,14 @@ fn write_pieces<S: Store>(
     requires free { ForSome (S.files store.old) (NoneFrom state.now.table names.old.run names.old.session names.old.next) }
     requires room { names.old.next + length pieces.now < 2 ^ 128 }
     ensures entries { IfOk result (λ entries. entries ≡ entries_from state.now.metadata names.old pieces.now) }
-    ensures files { OnOk result (S.files store.new ≡ option_map (λ files. files_from schema.now.columns state.now.table names.old files pieces.now) (S.files store.old)) }
+    ensures files { OnOk result (S.files store.new ≡ option_map (λ files. files_from schema.now.columns state.now.table names.old files pieces.now)
+        (S.files store.old)) }
     ensures short { OnOk result (AreShort schema.now.columns pieces.now) }
     ensures names { OnOk result (names.new ≡ behind (length pieces.now) names.old) }
     ensures session { (names.new.run ≡ names.old.run) × (names.new.session ≡ names.old.session) }
     ensures raised { (names.old.next ≤ names.new.next) × (names.new.next ≤ names.old.next + length pieces.now) }
     ensures free { ForSome (S.files store.new) (NoneFrom state.now.table names.new.run names.new.session names.new.next) }
-    ensures others { LeavesOthers state.now.table names.old (S.files store.old) (S.files store.new) }
+    ensures others { PutsDataFiles state.now.table names.old (S.files store.old) (S.files store.new) }
     ensures told { is_some (S.files store.new) ≡ is_some (S.files store.old) }
     ensures kept { KeepsFiles (S.files store.old) (S.files store.new) }
     ensures kind { IfErr result (λ f. (f ≡ LoadFault.Store) ⊎ (f ≡ LoadFault.Memory)) }
@@ -187,7 +200,7 @@ pub fn write_copies<S: Store>(
     ensures session { (names.new.run ≡ names.old.run) × (names.new.session ≡ names.old.session) }
     ensures raised { (names.old.next ≤ names.new.next) × (names.new.next ≤ names.old.next + 2 ^ 64) }
     ensures free { ForSome (S.files store.new) (NoneFrom state.now.table names.new.run names.new.session names.new.next) }
-    ensures others { LeavesOthers state.now.table names.old (S.files store.old) (S.files store.new) }
+    ensures others { PutsDataFiles state.now.table names.old (S.files store.old) (S.files store.new) }
     ensures told { is_some (S.files store.new) ≡ is_some (S.files store.old) }
     ensures kept { KeepsFiles (S.files store.old) (S.files store.new) }
     ensures kind { IfErr result (λ f. (f ≡ LoadFault.Store) ⊎ (f ≡ LoadFault.Memory)) }

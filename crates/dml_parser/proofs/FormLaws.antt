@@ -16,23 +16,26 @@ use Rattle.dml_parser.specs.declared.raw.Item.TheVariants.{Session, Insert, Dele
 use Rattle.dml_parser.specs.declared.raw.Literal.{Literal}
 use Rattle.dml_parser.specs.declared.raw.PlacedName.{PlacedName}
 use Rattle.dml_parser.specs.declared.script.ScriptFault.TheVariants as fault
-use Rattle.dml_parser.specs.Answer.{Answer}
+use Rattle.dml_parser.specs.Answer.{Parsed}
 use Rattle.dml_parser.specs.Front.{line_of, refuse_later, skipped, wanted_at}
 use Rattle.dml_parser.specs.Grammar.{begun_by, beginning_of, delete_at, filter_at, insert_at, item_at, more_at, row_at, rows_at, session_at, table_at, tuple_at}
-use Rattle.dml_parser.specs.Literals.{expression_at, is_session_name, name_at, session_name_at}
-use Rattle.dml_parser.specs.Read.{IsPlain}
-use Rattle.dml_parser.proofs.Stepwise.{all_pushed, carried, either, two_steps}
+use Rattle.dml_parser.specs.Literals.{expression_at, is_session_name, name_at, session_name_at, unquoted}
+use Rattle.dml_parser.specs.Read.{IsPlainName}
+use Rattle.dml_parser.proofs.Stepwise.{all_pushed, carried, either}
+use Rattle.plain_types.proofs.CallerLemmas.{two_steps}
 use Rattle.dml_parser.proofs.ValueLaws.{HasWidth}
 
 -- ---- tuples
 
-abbrev after_more : List Column → List Literal → ℕ → Bool × List Placed → Answer (List Literal × List Placed)
+abbrev after_more : List Column → List Literal → ℕ → Bool × List Placed → Parsed (List Literal × List Placed)
 after_more columns row line more = if more.0 then row_at columns row more.1 else (if length columns == 0 then Ok (row, more.1) else Err (fault.Form line))
 
 abbrev IsWide : List Column → List Literal → List Literal × List Placed → Type 0
 IsWide columns row all = length all.0 ≡ length row + length columns
 
-row_end : (columns : List Column) (row : List Literal) (line : ℕ) (more : Bool × List Placed) (all : List Literal × List Placed) → (row_at columns row more.1 ≡ Ok all → IsWide columns row all) → after_more columns row line more ≡ Ok all → IsWide columns row all
+row_end : (columns : List Column) (row : List Literal) (line : ℕ) (more : Bool × List Placed) (all : List Literal × List Placed)
+    → (row_at columns row more.1 ≡ Ok all → IsWide columns row all) → after_more columns row line more ≡ Ok all
+    → IsWide columns row all
 row_end columns row line more all further = either more.0 (row_at columns row more.1) (if length columns == 0 then Ok (row, more.1) else Err (fault.Form line)) all (λ _ h. further h) (λ _ h. ended h)
   where
     last : (length columns == 0) ≡ true → IsWide columns row (row, more.1)
@@ -41,12 +44,14 @@ row_end columns row line more all further = either more.0 (row_at columns row mo
     ended : (if length columns == 0 then Ok (row, more.1) else Err (fault.Form line)) ≡ Ok all → IsWide columns row all
     ended = either (length columns == 0) (Ok (row, more.1)) (Err (fault.Form line)) all (λ e h. carried (IsWide columns row) (row, more.1) all h (last e)) (λ _ h. cc)
 
-one_wider : (column : Column) (columns : List Column) (row : List Literal) (literal : Literal) (all : List Literal × List Placed) → IsWide columns (row ++ literal ∷ []) all → IsWide (column ∷ columns) row all
+one_wider : (column : Column) (columns : List Column) (row : List Literal) (literal : Literal) (all : List Literal × List Placed)
+    → IsWide columns (row ++ literal ∷ []) all → IsWide (column ∷ columns) row all
 one_wider column columns row literal all wide =
     let longer = length-append row (literal ∷ []) in
     omega (arith, wide, longer)
 
-row_width : (columns : List Column) (row : List Literal) (words : List Placed) (all : List Literal × List Placed) → row_at columns row words ≡ Ok all → IsWide columns row all
+row_width : (columns : List Column) (row : List Literal) (words : List Placed) (all : List Literal × List Placed)
+    → row_at columns row words ≡ Ok all → IsWide columns row all
 unfolding row_at
 row_width [] row words all h = cc
 row_width (column ∷ columns) row words all h =
@@ -65,17 +70,22 @@ tuple_width columns words all h =
 abbrev AreWide : List Column → List (List Literal) × List Placed → Type 0
 AreWide columns all = AllByRecursion (HasWidth columns) all.0
 
-abbrev after_tuple : List Column → List Placed → List (List Literal) → List Literal × List Placed → Answer (List (List Literal) × List Placed)
+abbrev after_tuple : List Column → List Placed → List (List Literal) → List Literal × List Placed → Parsed (List (List Literal) × List Placed)
 after_tuple columns bound rows row =
     if (skipped wanted.Comma row.1).0 then rows_at columns bound (rows ++ row.0 ∷ []) (skipped wanted.Comma row.1).1 else Ok (rows ++ row.0 ∷ [], row.1)
 
-rows_end : (columns : List Column) (bound : List Placed) (rows : List (List Literal)) (row : List Literal × List Placed) (all : List (List Literal) × List Placed) → AllByRecursion (HasWidth columns) (rows ++ row.0 ∷ []) → (rows_at columns bound (rows ++ row.0 ∷ []) (skipped wanted.Comma row.1).1 ≡ Ok all → AreWide columns all) → after_tuple columns bound rows row ≡ Ok all → AreWide columns all
+rows_end : (columns : List Column) (bound : List Placed) (rows : List (List Literal)) (row : List Literal × List Placed)
+    (all : List (List Literal) × List Placed) → AllByRecursion (HasWidth columns) (rows ++ row.0 ∷ [])
+    → (rows_at columns bound (rows ++ row.0 ∷ []) (skipped wanted.Comma row.1).1 ≡ Ok all → AreWide columns all)
+    → after_tuple columns bound rows row ≡ Ok all → AreWide columns all
 rows_end columns bound rows row all wide further =
     either (skipped wanted.Comma row.1).0 (rows_at columns bound (rows ++ row.0 ∷ []) (skipped wanted.Comma row.1).1) (Ok (rows ++ row.0 ∷ [], row.1)) all
     (λ _ h. further h)
     (λ _ h. carried (AreWide columns) (rows ++ row.0 ∷ [], row.1) all h wide)
 
-rows_width : (columns : List Column) (bound : List Placed) (rows : List (List Literal)) (words : List Placed) (all : List (List Literal) × List Placed) → AllByRecursion (HasWidth columns) rows → rows_at columns bound rows words ≡ Ok all → AreWide columns all
+rows_width : (columns : List Column) (bound : List Placed) (rows : List (List Literal)) (words : List Placed)
+    (all : List (List Literal) × List Placed) → AllByRecursion (HasWidth columns) rows → rows_at columns bound rows words ≡ Ok all
+    → AreWide columns all
 unfolding rows_at
 rows_width columns [] rows words all are h = cc
 rows_width columns (word ∷ bound) rows words all are h =
@@ -86,7 +96,7 @@ rows_width columns (word ∷ bound) rows words all are h =
 -- ---- items
 
 abbrev pub IsFormed : List Column → Item → Type 0
-IsFormed columns (Session name) = IsPlain name
+IsFormed columns (Session name) = IsPlainName name
 IsFormed columns (Insert rows) = AllByRecursion (HasWidth columns) rows
 IsFormed columns (Delete filter) = ⊤
 
@@ -113,11 +123,12 @@ delete_formed columns words all h =
     let rest = two_steps (wanted_at wanted.Semicolon filter.0.1) _ all filter.2 in
     carried (IsFormedOf columns) (Delete filter.0.0, rest.0) all rest.2 tt
 
-name_is_plain : (words : List Placed) (name : PlacedName × List Placed) → session_name_at words ≡ Ok name → IsPlain name.0.text
+name_is_plain : (words : List Placed) (name : PlacedName × List Placed) → session_name_at words ≡ Ok name → IsPlainName name.0.text
 unfolding session_name_at
 name_is_plain words name h =
-    let s = two_steps (name_at words) _ name h in
-    either (is_session_name s.0.0.text) (Ok s.0) (Err (fault.Form s.0.0.line)) name (λ e h. carried (λ n. IsPlain n.0.text) s.0 name h e) (λ _ h. cc) s.2
+    let plain = two_steps (unquoted words) _ name h in
+    let s = two_steps (name_at words) _ name plain.2 in
+    either (is_session_name s.0.0.text) (Ok s.0) (Err (fault.Form s.0.0.line)) name (λ e h. carried (λ n. IsPlainName n.0.text) s.0 name h e) (λ _ h. cc) s.2
 
 session_formed : (columns : List Column) (words : List Placed) (all : Item × List Placed) → session_at words ≡ Ok all → IsFormedOf columns all
 unfolding session_at
@@ -126,14 +137,16 @@ session_formed columns words all h =
     let rest = two_steps (wanted_at wanted.Semicolon name.0.1) _ all name.2 in
     carried (IsFormedOf columns) (Session name.0.0.text, rest.0) all rest.2 (name_is_plain words name.0 name.1)
 
-begun_formed : (columns : List Column) (b : Beginning) (line : ℕ) (rest : List Placed) (all : Item × List Placed) → begun_by columns b line rest ≡ Ok all → IsFormedOf columns all
+begun_formed : (columns : List Column) (b : Beginning) (line : ℕ) (rest : List Placed) (all : Item × List Placed)
+    → begun_by columns b line rest ≡ Ok all → IsFormedOf columns all
 begun_formed columns begin.Session line rest all h = session_formed columns rest all h
 begun_formed columns begin.Insert line rest all h = insert_formed columns rest all h
 begun_formed columns begin.Delete line rest all h = delete_formed columns rest all h
 begun_formed columns begin.Later line rest all h = cc
 begun_formed columns begin.Nothing line rest all h = cc
 
-pub item_is_formed : (columns : List Column) (w : Within) (words : List Placed) (all : Item × List Placed) → item_at columns w words ≡ Ok all → IsFormed columns all.0
+pub item_is_formed : (columns : List Column) (w : Within) (words : List Placed) (all : Item × List Placed)
+    → item_at columns w words ≡ Ok all → IsFormed columns all.0
 unfolding item_at
 item_is_formed columns w [] all h = cc
 item_is_formed columns w (first ∷ rest) all h = begun_formed columns (beginning_of w first.word) first.line rest all h

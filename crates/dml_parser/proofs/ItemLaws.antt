@@ -12,8 +12,7 @@ use Rattle.sql_predicates.specs.declared.pred.Operand.TheVariants as operand
 use Rattle.sql_predicates.specs.declared.pred.Pred.{Pred, roll-Pred}
 use Rattle.sql_predicates.specs.declared.pred.Pred.TheOpen as open_pred
 use Rattle.sql_predicates.specs.Positions.{pred_is_within}
-use Rattle.sql_predicates.proofs.FrontLaws.{within_roll}
-use Rattle.sql_predicates.proofs.KindLaws.{and_both}
+use Rattle.sql_predicates.proofs.CallerLemmas.{within_roll, and_both}
 use Rattle.sql_statements.specs.declared.statement.Statement.{Statement}
 use Rattle.sql_statements.specs.declared.statement.Statement.TheVariants as statement
 use Rattle.dml_parser.specs.declared.raw.ColumnName.{ColumnName}
@@ -23,7 +22,8 @@ use Rattle.dml_parser.specs.declared.script.ScriptFault.TheVariants as fault
 use Rattle.dml_parser.specs.Items.{check_room, column_from, column_of, delete_of, equality_of, filter_of, insert_of, is_column, table_stands, where_of}
 use Rattle.dml_parser.specs.Read.{IsRead}
 use Rattle.dml_parser.specs.Values.{limits_of_rows, literal_limit, value_of, values_of_rows}
-use Rattle.dml_parser.proofs.Stepwise.{carried, two_steps}
+use Rattle.dml_parser.proofs.Stepwise.{carried}
+use Rattle.plain_types.proofs.CallerLemmas.{two_steps}
 use Rattle.dml_parser.proofs.ValueLaws.{HasWidth, rows_are_tuples}
 
 -- ---- what a filter reads
@@ -38,7 +38,9 @@ column_below name at (column ∷ columns) found h = by (is_column name column) (
         let same : (at, column.kind) ≡ found = cc in
         subst (λ (x : ℕ × Kind). x.0 < at + suc (length columns)) same (omega arith)
 
-    by : (is : Bool) → (column_from name (at + 1) columns ≡ Some found → found.0 < (at + 1) + length columns) → (if is then Some (at, column.kind) else column_from name (at + 1) columns) ≡ Some found → found.0 < at + suc (length columns)
+    by : (is : Bool) → (column_from name (at + 1) columns ≡ Some found → found.0 < (at + 1) + length columns)
+        → (if is then Some (at, column.kind) else column_from name (at + 1) columns) ≡ Some found
+        → found.0 < at + suc (length columns)
     by true rest e = here e
     by false rest e = let below = rest e in omega (arith, below)
 
@@ -86,7 +88,8 @@ has_room count line u = by (nat_lt count 4096) refl
     by true e h = ltb-true count 4096 e
     by false e h = cc
 
-where_within : (columns : List Column) (count line : ℕ) (equality : Equality) (pred : Pred) → where_of columns count line equality ≡ Ok pred → HasRoom columns count pred
+where_within : (columns : List Column) (count line : ℕ) (equality : Equality) (pred : Pred)
+    → where_of columns count line equality ≡ Ok pred → HasRoom columns count pred
 unfolding where_of
 where_within columns count line equality pred h =
     let filter = two_steps (equality_of columns equality) _ pred h in
@@ -94,7 +97,8 @@ where_within columns count line equality pred h =
     let limit = two_steps (literal_limit equality.literal) _ pred room.2 in
     carried (HasRoom columns count) filter.0 pred limit.2 (record { within = equality_within columns equality filter.0 filter.1; room = has_room count line room.0 room.1 })
 
-filter_within : (columns : List Column) (count line : ℕ) (equality : Option Equality) (pred : Pred) → filter_of columns count line equality ≡ Ok pred → HasRoom columns count pred
+filter_within : (columns : List Column) (count line : ℕ) (equality : Option Equality) (pred : Pred)
+    → filter_of columns count line equality ≡ Ok pred → HasRoom columns count pred
 filter_within columns count line (Some equality) pred h = where_within columns count line equality pred h
 filter_within columns count line None pred h =
     let room = two_steps (check_room count line) _ pred h in
@@ -106,7 +110,8 @@ pub record IsOneMore (columns : List Column) (count : ℕ) (s : Statement) : Typ
   pub read : IsRead columns s
   pub room : count < 4096
 
-pub delete_is_read : (columns : List Column) (count line : ℕ) (equality : Option Equality) (s : Statement) → delete_of columns count line equality ≡ Ok s → IsOneMore columns count s
+pub delete_is_read : (columns : List Column) (count line : ℕ) (equality : Option Equality) (s : Statement)
+    → delete_of columns count line equality ≡ Ok s → IsOneMore columns count s
 unfolding delete_of
 delete_is_read columns count line equality s h =
     let filter = two_steps (filter_of columns count line equality) _ s h in
@@ -114,7 +119,8 @@ delete_is_read columns count line equality s h =
     carried (IsOneMore columns count) (statement.Delete (codes "main") filter.0) s filter.2
     (record { read = record { branch = refl; changes = refl; within = is.within; filters = is.within; fits = refl }; room = is.room })
 
-pub insert_is_read : (columns : List Column) (count line : ℕ) (rows : List (List Literal)) (s : Statement) → AllByRecursion (HasWidth columns) rows → insert_of columns count line rows ≡ Ok s → IsOneMore columns count s
+pub insert_is_read : (columns : List Column) (count line : ℕ) (rows : List (List Literal)) (s : Statement)
+    → AllByRecursion (HasWidth columns) rows → insert_of columns count line rows ≡ Ok s → IsOneMore columns count s
 unfolding insert_of
 insert_is_read columns count line rows s wide h =
     let tuples = two_steps (values_of_rows columns [] rows) _ s h in

@@ -1,7 +1,8 @@
-pub mod FormLaws
-pub mod ItemLaws
-pub mod NameLaws
-pub mod ScriptLaws
-pub mod Stepwise
-pub mod Texts
-pub mod ValueLaws
+pub mod CallerLemmas
+mod FormLaws
+mod ItemLaws
+mod NameLaws
+mod ScriptLaws
+mod Stepwise
+mod Texts
+mod ValueLaws

@@ -18,19 +18,20 @@ use Rattle.dml_parser.specs.declared.script.ScriptFault.TheVariants as fault
 use Rattle.dml_parser.specs.Front.{line_of}
 use Rattle.dml_parser.specs.Grammar.{item_at}
 use Rattle.dml_parser.specs.Items.{delete_of, insert_of}
-use Rattle.dml_parser.specs.Read.{AreNamed, AreRead, HasNo, IsPlain, IsRead, IsShort}
+use Rattle.dml_parser.specs.Read.{AreNamed, AreRead, HasNo, IsPlainName, IsRead, IsShort}
 use Rattle.dml_parser.specs.Script.{after_item, ends, read_item, read_items, script_in, script_in_text, script_of, sessions_of, started, tokens_stand, with_session, with_statement, within}
 use Rattle.dml_parser.specs.Values.{text_of}
 use Rattle.dml_parser.proofs.FormLaws.{IsFormed, item_is_formed}
 use Rattle.dml_parser.proofs.ItemLaws.{IsOneMore, delete_is_read, insert_is_read}
 use Rattle.dml_parser.proofs.NameLaws.{plain_has_no_hyphen, plain_has_no_slash, plain_is_utf8}
-use Rattle.dml_parser.proofs.Stepwise.{all_pushed, carried, either, one_value, two_steps}
+use Rattle.dml_parser.proofs.Stepwise.{all_pushed, carried, either}
+use Rattle.plain_types.proofs.CallerLemmas.{one_value, two_steps}
 
 -- ---- what was read so far
 
 abbrev IsNamed : Option (List ℕ) → Type 0
 IsNamed None = ⊤
-IsNamed (Some name) = IsPlain name
+IsNamed (Some name) = IsPlainName name
 
 record IsProgress (columns : List Column) (p : Progress) : Type 0 where
   named : IsNamed p.session
@@ -40,21 +41,24 @@ record IsProgress (columns : List Column) (p : Progress) : Type 0 where
 begun : (columns : List Column) → IsProgress columns started
 begun columns = record { named = tt; read = tt; room = omega arith }
 
-after_session : (columns : List Column) (p after : Progress) (name : List ℕ) → IsPlain name → IsProgress columns p → (text_of name >>= λ text. Ok (with_session p text)) ≡ Ok after → IsProgress columns after
+after_session : (columns : List Column) (p after : Progress) (name : List ℕ) → IsPlainName name → IsProgress columns p
+    → (text_of name >>= λ text. Ok (with_session p text)) ≡ Ok after → IsProgress columns after
 after_session columns p after name plain is h =
     let text = two_steps (text_of name) (λ text. Ok (with_session p text)) after h in
     let same = either (is_utf8 name) (Ok name) (Err fault.Text) text.0 (λ _ e. one_value name text.0 (Ok name) refl e) (λ _ e. cc) text.1 in
     carried (IsProgress columns) (with_session p text.0) after text.2
-    (record { named = subst IsPlain same plain; read = is.read; room = is.room })
+    (record { named = subst IsPlainName same plain; read = is.read; room = is.room })
 
-one_more : (columns : List Column) (p : Progress) (s : Statement) → IsProgress columns p → IsOneMore columns (length p.statements) s → IsProgress columns (with_statement p s)
+one_more : (columns : List Column) (p : Progress) (s : Statement) → IsProgress columns p
+    → IsOneMore columns (length p.statements) s → IsProgress columns (with_statement p s)
 one_more columns p s is more = record {
   named = is.named;
   read = all_pushed (IsRead columns) p.statements s is.read more.read;
   room = let longer = length-append p.statements (s ∷ []) in let room = more.room in omega (arith, longer, room);
 }
 
-after_formed : (columns : List Column) (p after : Progress) (line : ℕ) (i : Item) → IsFormed columns i → IsProgress columns p → after_item columns p line i ≡ Ok after → IsProgress columns after
+after_formed : (columns : List Column) (p after : Progress) (line : ℕ) (i : Item) → IsFormed columns i → IsProgress columns p
+    → after_item columns p line i ≡ Ok after → IsProgress columns after
 unfolding after_item
 after_formed columns p after line (item.Session name) formed is h = after_session columns p after name formed is h
 after_formed columns p after line (item.Insert rows) formed is h =
@@ -69,7 +73,8 @@ after_formed columns p after line (item.Delete equality) formed is h =
 abbrev IsProgressOf : List Column → Progress × List Placed → Type 0
 IsProgressOf columns x = IsProgress columns x.0
 
-after_one : (columns : List Column) (p : Progress) (words : List Placed) (x : Progress × List Placed) → IsProgress columns p → read_item columns p words ≡ Ok x → IsProgressOf columns x
+after_one : (columns : List Column) (p : Progress) (words : List Placed) (x : Progress × List Placed) → IsProgress columns p
+    → read_item columns p words ≡ Ok x → IsProgressOf columns x
 unfolding read_item
 after_one columns p words x is h =
     let tokens = two_steps (tokens_stand words) _ x h in
@@ -78,7 +83,8 @@ after_one columns p words x is h =
     carried (IsProgressOf columns) (after.0, i.0.1) x after.2
     (after_formed columns p after.0 (line_of words) i.0.0 (item_is_formed columns (within p.session) words i.0 i.1) is after.1)
 
-after_all : (columns : List Column) (bound : List Placed) (p : Progress) (words : List Placed) (q : Progress) → IsProgress columns p → read_items columns bound p words ≡ Ok q → IsProgress columns q
+after_all : (columns : List Column) (bound : List Placed) (p : Progress) (words : List Placed) (q : Progress)
+    → IsProgress columns p → read_items columns bound p words ≡ Ok q → IsProgress columns q
 unfolding read_items
 after_all columns [] p words q is h = carried (IsProgress columns) p q h is
 after_all columns (word ∷ bound) p words q is h =
@@ -93,10 +99,12 @@ after_all columns (word ∷ bound) p words q is h =
 
 record IsOfColumns (columns : List Column) (script : Script) : Type 0 where
   read : AreRead columns script
-  named : AreNamed IsPlain script
+  named : AreNamed IsPlainName script
   short : IsShort script
 
-session_is : (columns : List Column) (session : Option (List ℕ)) (statements : List Statement) → IsProgress columns (record { session = session; statements = statements }) → IsOfColumns columns (record { sessions = sessions_of session statements })
+session_is : (columns : List Column) (session : Option (List ℕ)) (statements : List Statement)
+    → IsProgress columns (record { session = session; statements = statements })
+    → IsOfColumns columns (record { sessions = sessions_of session statements })
 session_is columns None statements is = record { read = tt; named = tt; short = record { sessions_count = omega arith; statements_count = tt } }
 session_is columns (Some name) statements is = record {
   read = (is.read, tt);
@@ -122,7 +130,7 @@ script_is bytes schema script h =
 pub are_read : (bytes : List ℕ) (schema : TableSchema) (script : Script) → script_of bytes schema ≡ Ok script → AreRead schema.columns script
 are_read bytes schema script h = (script_is bytes schema script h).read
 
-pub are_plain : (bytes : List ℕ) (schema : TableSchema) (script : Script) → script_of bytes schema ≡ Ok script → AreNamed IsPlain script
+pub are_plain : (bytes : List ℕ) (schema : TableSchema) (script : Script) → script_of bytes schema ≡ Ok script → AreNamed IsPlainName script
 are_plain bytes schema script h = (script_is bytes schema script h).named
 
 pub are_short : (bytes : List ℕ) (schema : TableSchema) (script : Script) → script_of bytes schema ≡ Ok script → IsShort script
@@ -130,15 +138,16 @@ are_short bytes schema script h = (script_is bytes schema script h).short
 
 -- ---- what plain names are
 
-each_named : (P Q : List ℕ → Type 0) → ((name : List ℕ) → P name → Q name) → (sessions : List SessionItem) → AllByRecursion (λ (s : SessionItem). P s.name) sessions → AllByRecursion (λ (s : SessionItem). Q s.name) sessions
+each_named : (P Q : List ℕ → Type 0) → ((name : List ℕ) → P name → Q name) → (sessions : List SessionItem)
+    → AllByRecursion (λ (s : SessionItem). P s.name) sessions → AllByRecursion (λ (s : SessionItem). Q s.name) sessions
 each_named P Q weaker [] are = tt
 each_named P Q weaker (session ∷ sessions) are = (weaker session.name are.0, each_named P Q weaker sessions are.1)
 
 pub are_utf8 : (bytes : List ℕ) (schema : TableSchema) (script : Script) → script_of bytes schema ≡ Ok script → AreNamed IsUtf8 script
-are_utf8 bytes schema script h = each_named IsPlain IsUtf8 plain_is_utf8 script.sessions (are_plain bytes schema script h)
+are_utf8 bytes schema script h = each_named IsPlainName IsUtf8 plain_is_utf8 script.sessions (are_plain bytes schema script h)
 
 pub have_no_hyphen : (bytes : List ℕ) (schema : TableSchema) (script : Script) → script_of bytes schema ≡ Ok script → AreNamed (HasNo 45) script
-have_no_hyphen bytes schema script h = each_named IsPlain (HasNo 45) plain_has_no_hyphen script.sessions (are_plain bytes schema script h)
+have_no_hyphen bytes schema script h = each_named IsPlainName (HasNo 45) plain_has_no_hyphen script.sessions (are_plain bytes schema script h)
 
 pub have_no_slash : (bytes : List ℕ) (schema : TableSchema) (script : Script) → script_of bytes schema ≡ Ok script → AreNamed (HasNo 47) script
-have_no_slash bytes schema script h = each_named IsPlain (HasNo 47) plain_has_no_slash script.sessions (are_plain bytes schema script h)
+have_no_slash bytes schema script h = each_named IsPlainName (HasNo 47) plain_has_no_slash script.sessions (are_plain bytes schema script h)

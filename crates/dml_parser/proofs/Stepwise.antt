@@ -1,16 +1,8 @@
--- Readings in steps.
+-- Readings by tests, and what holds of each of a list.
 use Rattle.std.proofs.Common.{◌≡◌, Bool, true, false, List, [], ◌∷◌, ◌++◌, Result, Ok, Err, refl, subst}
 use Rattle.std.specs.Prelude.{if◌then◌else◌}
 use Rattle.std.specs.List.{AllByRecursion}
-use Rattle.plain_types.specs.Steps.{◌>>=◌}
-
--- a reading in two steps that succeeds has two steps that do
-pub two_steps : {A B E : Type 0} → (r : Result A E) (f : A → Result B E) (b : B) → (r >>= f) ≡ Ok b → (a : A) × (r ≡ Ok a) × (f a ≡ Ok b)
-two_steps (Ok a) f b h = (a, refl, h)
-two_steps (Err e) f b h = cc
-
-pub one_value : {A E : Type 0} → (a b : A) (r : Result A E) → r ≡ Ok a → r ≡ Ok b → a ≡ b
-one_value a b r h k = cc
+use Rattle.plain_types.proofs.CallerLemmas.{one_value}
 
 abbrev ok : {A : Type 0} → (E : Type 0) → A → Result A E
 ok E a = Ok a
@@ -20,7 +12,8 @@ pub carried : {A E : Type 0} → (P : A → Type 0) (a b : A) → ok E a ≡ ok 
 carried {E} P a b h is = subst P (one_value a b (ok E a) refl h) is
 
 -- a reading by a test that succeeds is one of the two
-pub either : {A E P : Type 0} → (test : Bool) (x y : Result A E) (a : A) → (test ≡ true → x ≡ Ok a → P) → (test ≡ false → y ≡ Ok a → P) → (if test then x else y) ≡ Ok a → P
+pub either : {A E P : Type 0} → (test : Bool) (x y : Result A E) (a : A) → (test ≡ true → x ≡ Ok a → P)
+    → (test ≡ false → y ≡ Ok a → P) → (if test then x else y) ≡ Ok a → P
 either true x y a is_true is_false h = is_true refl h
 either false x y a is_true is_false h = is_false refl h
 

@@ -16,7 +16,7 @@ use Rattle.sql_predicates.specs.declared.expr.Expr.TheFolds.{fold-roll-Expr}
 use Rattle.sql_predicates.specs.declared.expr.Expr.TheOpen as open_expr
 use Rattle.sql_predicates.specs.Kinds.{fits, fits_level, is_value_or_null}
 use Rattle.sql_predicates.specs.Positions.{expr_is_within, expr_level_is_within}
-use Rattle.sql_predicates.proofs.KindLaws.{and_both}
+use Rattle.sql_predicates.proofs.CallerLemmas.{and_both}
 use Rattle.sql_statements.specs.Fits.{exprs_are_within}
 use Rattle.sql_statements.specs.Kinds.{exprs_fit, widest}
 use Rattle.dml_parser.specs.declared.raw.Literal.{Literal}
@@ -24,7 +24,8 @@ use Rattle.dml_parser.specs.declared.raw.Spelling.{Spelling}
 use Rattle.dml_parser.specs.declared.raw.Spelling.TheVariants as spelling
 use Rattle.dml_parser.specs.declared.script.ScriptFault.TheVariants as fault
 use Rattle.dml_parser.specs.Values.{bool_value, int_value, long_value, number_value, spelled_value, text_of, text_value, value_of, values_of_row, values_of_rows, whole_of, whole_value}
-use Rattle.dml_parser.proofs.Stepwise.{carried, one_value, two_steps}
+use Rattle.dml_parser.proofs.Stepwise.{carried}
+use Rattle.plain_types.proofs.CallerLemmas.{one_value, two_steps}
 
 -- ---- one value
 
@@ -34,14 +35,16 @@ Fits k v = is_value_or_null (widest k) v ≡ true
 int_fits : (n : ℤ) (line : ℕ) (v : Value) → int_value n line ≡ Ok v → Fits kind.Int v
 int_fits n line v = by (is_between (neg_ℤ (pos (2 ^ 31))) (pos (2 ^ 31 - 1)) n) refl
   where
-    by : (is : Bool) → is_between (neg_ℤ (pos (2 ^ 31))) (pos (2 ^ 31 - 1)) n ≡ is → (if is then Ok (value.Int n) else Err (fault.Kind line)) ≡ Ok v → Fits kind.Int v
+    by : (is : Bool) → is_between (neg_ℤ (pos (2 ^ 31))) (pos (2 ^ 31 - 1)) n ≡ is
+        → (if is then Ok (value.Int n) else Err (fault.Kind line)) ≡ Ok v → Fits kind.Int v
     by true e h = carried (Fits kind.Int) (value.Int n) v h e
     by false e h = cc
 
 long_fits : (n : ℤ) (line : ℕ) (v : Value) → long_value n line ≡ Ok v → Fits kind.Long v
 long_fits n line v = by (is_between (neg_ℤ (pos (2 ^ 63))) (pos (2 ^ 63 - 1)) n) refl
   where
-    by : (is : Bool) → is_between (neg_ℤ (pos (2 ^ 63))) (pos (2 ^ 63 - 1)) n ≡ is → (if is then Ok (value.Long n) else Err (fault.Kind line)) ≡ Ok v → Fits kind.Long v
+    by : (is : Bool) → is_between (neg_ℤ (pos (2 ^ 63))) (pos (2 ^ 63 - 1)) n ≡ is
+        → (if is then Ok (value.Long n) else Err (fault.Kind line)) ≡ Ok v → Fits kind.Long v
     by true e h = carried (Fits kind.Long) (value.Long n) v h e
     by false e h = cc
 
@@ -101,7 +104,8 @@ record IsTuple (columns : List Column) (exprs : List Expr) : Type 0 where
 abbrev Adds : List Column → List Expr → List Expr → Type 0
 Adds columns before all = (made : List Expr) × (all ≡ before ++ made) × IsTuple columns made
 
-one_more : (column : Column) (columns : List Column) (before all : List Expr) (v : Value) → Fits column.kind v → Adds columns (before ++ literal_expr v ∷ []) all → Adds (column ∷ columns) before all
+one_more : (column : Column) (columns : List Column) (before all : List Expr) (v : Value) → Fits column.kind v
+    → Adds columns (before ++ literal_expr v ∷ []) all → Adds (column ∷ columns) before all
 one_more column columns before all v is (made, adds, tuple) = (
   literal_expr v ∷ made,
   adds ∙ append_assoc before (literal_expr v ∷ []) made,
@@ -111,7 +115,8 @@ one_more column columns before all v is (made, adds, tuple) = (
   },
 )
 
-row_adds : (columns : List Column) (before all : List Expr) (row : List Literal) → length row ≡ length columns → values_of_row columns before row ≡ Ok all → Adds columns before all
+row_adds : (columns : List Column) (before all : List Expr) (row : List Literal) → length row ≡ length columns
+    → values_of_row columns before row ≡ Ok all → Adds columns before all
 unfolding values_of_row
 row_adds [] before all [] wide h = ([], one_value all before (Ok before) h refl ∙ sym (append-nil before), record { fit = refl; within = refl })
 row_adds (column ∷ columns) before all [] wide h = absurd (omega (arith, wide))
@@ -120,7 +125,8 @@ row_adds (column ∷ columns) before all (literal ∷ row) wide h =
     let s = two_steps (value_of column.kind literal) (λ v. values_of_row columns (before ++ literal_expr v ∷ []) row) all h in
     one_more column columns before all s.0 (value_fits column.kind literal s.0 s.1) (row_adds columns (before ++ literal_expr s.0 ∷ []) all row (omega (arith, wide)) s.2)
 
-row_is_tuple : (columns : List Column) (row : List Literal) (all : List Expr) → length row ≡ length columns → values_of_row columns [] row ≡ Ok all → IsTuple columns all
+row_is_tuple : (columns : List Column) (row : List Literal) (all : List Expr) → length row ≡ length columns
+    → values_of_row columns [] row ≡ Ok all → IsTuple columns all
 row_is_tuple columns row all wide h =
     let adds = row_adds columns [] all row wide h in
     subst (IsTuple columns) (sym adds.1) adds.2
@@ -134,17 +140,21 @@ pub record AreTuples (columns : List Column) (tuples : List (List Expr)) : Type 
 abbrev pub HasWidth : List Column → List Literal → Type 0
 HasWidth columns row = length row ≡ length columns
 
-pushed : (test : List Expr → Bool) (before : List (List Expr)) (tuple : List Expr) → list_all test before ≡ true → test tuple ≡ true → list_all test (before ++ tuple ∷ []) ≡ true
+pushed : (test : List Expr → Bool) (before : List (List Expr)) (tuple : List Expr) → list_all test before ≡ true
+    → test tuple ≡ true → list_all test (before ++ tuple ∷ []) ≡ true
 pushed test before tuple are is =
     list_all-append test before (tuple ∷ []) ∙ and_both (list_all test before) (test tuple && true) are (and_both (test tuple) true is refl)
 
-tuple_more : (columns : List Column) (before : List (List Expr)) (tuple : List Expr) → AreTuples columns before → IsTuple columns tuple → AreTuples columns (before ++ tuple ∷ [])
+tuple_more : (columns : List Column) (before : List (List Expr)) (tuple : List Expr) → AreTuples columns before
+    → IsTuple columns tuple → AreTuples columns (before ++ tuple ∷ [])
 tuple_more columns before tuple are is = record {
   fit = pushed (exprs_fit [] columns) before tuple are.fit is.fit;
   within = pushed (exprs_are_within 0) before tuple are.within is.within;
 }
 
-rows_more : (columns : List Column) (before all : List (List Expr)) (rows : List (List Literal)) → AllByRecursion (HasWidth columns) rows → AreTuples columns before → values_of_rows columns before rows ≡ Ok all → AreTuples columns all
+rows_more : (columns : List Column) (before all : List (List Expr)) (rows : List (List Literal))
+    → AllByRecursion (HasWidth columns) rows → AreTuples columns before → values_of_rows columns before rows ≡ Ok all
+    → AreTuples columns all
 unfolding values_of_rows
 rows_more columns before all [] wide are h = carried (AreTuples columns) before all h are
 rows_more columns before all (row ∷ rows) wide are h =
@@ -152,5 +162,6 @@ rows_more columns before all (row ∷ rows) wide are h =
     rows_more columns (before ++ s.0 ∷ []) all rows wide.1 (tuple_more columns before s.0 are (row_is_tuple columns row s.0 wide.0 s.1)) s.2
 
 -- the tuples of rows with a literal for each column
-pub rows_are_tuples : (columns : List Column) (rows : List (List Literal)) (all : List (List Expr)) → AllByRecursion (HasWidth columns) rows → values_of_rows columns [] rows ≡ Ok all → AreTuples columns all
+pub rows_are_tuples : (columns : List Column) (rows : List (List Literal)) (all : List (List Expr))
+    → AllByRecursion (HasWidth columns) rows → values_of_rows columns [] rows ≡ Ok all → AreTuples columns all
 rows_are_tuples columns rows all wide h = rows_more columns [] all rows wide (record { fit = refl; within = refl }) h

@@ -11,7 +11,7 @@ use Rattle.dml_parser.specs.declared.front.Wanted.TheVariants as wanted
 use Rattle.dml_parser.specs.declared.front.Later.{Later}
 use Rattle.dml_parser.specs.declared.front.Later.TheVariants as later
 use Rattle.dml_parser.specs.declared.script.ScriptFault.TheVariants as fault
-use Rattle.dml_parser.specs.Answer.{Answer}
+use Rattle.dml_parser.specs.Answer.{Parsed}
 
 -- the line of the word in front; words always have an end
 abbrev pub line_of : List Placed → ℕ
@@ -37,7 +37,7 @@ skipped w [] = (false, [])
 skipped w (first ∷ rest) = if is_wanted w first.word then (true, rest) else (false, first ∷ rest)
 
 -- what follows the word, which has to be in front
-unfoldable pub wanted_at : Wanted → List Placed → Answer (List Placed)
+unfoldable pub wanted_at : Wanted → List Placed → Parsed (List Placed)
 wanted_at w words = if (skipped w words).0 then Ok (skipped w words).1 else Err (fault.Form (line_of words))
 
 abbrev pub is_later : Later → Word → Bool
@@ -70,6 +70,6 @@ is_later later.Predicate (Text text) = true
 is_later _ _ = false
 
 -- such a form is not read yet
-unfoldable pub refuse_later : Later → List Placed → Answer ⊤
+unfoldable pub refuse_later : Later → List Placed → Parsed ⊤
 refuse_later l [] = Ok tt
 refuse_later l (first ∷ rest) = fault_if (fault.Later first.line) (is_later l first.word)

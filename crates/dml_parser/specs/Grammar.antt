@@ -26,7 +26,7 @@ use Rattle.dml_parser.specs.declared.form.Within.TheVariants as within
 use Rattle.dml_parser.specs.declared.form.Beginning.{Beginning}
 use Rattle.dml_parser.specs.declared.form.Beginning.TheVariants as begin
 use Rattle.dml_parser.specs.declared.script.ScriptFault.TheVariants as fault
-use Rattle.dml_parser.specs.Answer.{Answer}
+use Rattle.dml_parser.specs.Answer.{Parsed}
 use Rattle.dml_parser.specs.Front.{line_of, refuse_later, skipped, wanted_at}
 use Rattle.dml_parser.specs.Literals.{expression_at, literal_at, name_at, session_name_at}
 
@@ -34,7 +34,7 @@ abbrev pub is_table_name : List ℕ → Bool
 is_table_name name = pointwise nat_eq name (codes "t")
 
 -- what follows the table's name; a branch is not read yet
-unfoldable pub table_at : List Placed → Answer (List Placed)
+unfoldable pub table_at : List Placed → Parsed (List Placed)
 table_at words = do
   name ← name_at words
   _ ← fault_if (fault.Form name.0.line) (not (is_table_name name.0.text))
@@ -42,14 +42,14 @@ table_at words = do
   Ok name.1
 
 -- a comma, and true, or the parenthesis that closes the tuple; operators are not read yet
-unfoldable pub more_at : List Placed → Answer (Bool × List Placed)
+unfoldable pub more_at : List Placed → Parsed (Bool × List Placed)
 more_at words = do
   _ ← refuse_later later.Arithmetic words
   if (skipped wanted.Comma words).0 then Ok (true, (skipped wanted.Comma words).1)
       else (wanted_at wanted.Close words >>= λ rest. Ok (false, rest))
 
 -- one literal for each column: a tuple that is too short shows at its end, one that is too long at the first literal beyond
-unfoldable pub row_at : List Column → List Literal → List Placed → Answer (List Literal × List Placed)
+unfoldable pub row_at : List Column → List Literal → List Placed → Parsed (List Literal × List Placed)
 row_at [] row words = Err (fault.Form (line_of words))
 row_at (column ∷ columns) row words = do
   literal ← expression_at words
@@ -57,13 +57,13 @@ row_at (column ∷ columns) row words = do
   if more.0 then row_at columns (row ++ literal.0 ∷ []) more.1
       else (if length columns == 0 then Ok (row ++ literal.0 ∷ [], more.1) else Err (fault.Form (line_of literal.1)))
 
-unfoldable pub tuple_at : List Column → List Placed → Answer (List Literal × List Placed)
+unfoldable pub tuple_at : List Column → List Placed → Parsed (List Literal × List Placed)
 tuple_at columns words = do
   rest ← wanted_at wanted.Open words
   row_at columns [] rest
 
 -- tuples with commas between them, fewer than there are words
-unfoldable pub rows_at : List Column → List Placed → List (List Literal) → List Placed → Answer (List (List Literal) × List Placed)
+unfoldable pub rows_at : List Column → List Placed → List (List Literal) → List Placed → Parsed (List (List Literal) × List Placed)
 rows_at columns [] rows words = Err (fault.Form (line_of words))
 rows_at columns (_ ∷ bound) rows words = do
   row ← tuple_at columns words
@@ -71,7 +71,7 @@ rows_at columns (_ ∷ bound) rows words = do
       else Ok (rows ++ row.0 ∷ [], row.1)
 
 -- what follows INSERT; names of columns are not read yet
-unfoldable pub insert_at : List Column → List Placed → Answer (Item × List Placed)
+unfoldable pub insert_at : List Column → List Placed → Parsed (Item × List Placed)
 insert_at columns words = do
   words ← wanted_at wanted.Into words
   words ← table_at words
@@ -81,20 +81,20 @@ insert_at columns words = do
   rest ← wanted_at wanted.Semicolon rows.1
   Ok (Insert rows.0, rest)
 
-unfoldable pub qualified_at : PlacedName → List Placed → Answer (ColumnName × List Placed)
+unfoldable pub qualified_at : PlacedName → List Placed → Parsed (ColumnName × List Placed)
 qualified_at name words =
     if (skipped wanted.Point words).0
     then (name_at (skipped wanted.Point words).1 >>= λ column. Ok (record { table = Some name; column = column.0 }, column.1))
     else Ok (record { table = None; column = name }, words)
 
-unfoldable pub column_at : List Placed → Answer (ColumnName × List Placed)
+unfoldable pub column_at : List Placed → Parsed (ColumnName × List Placed)
 column_at words = do
   _ ← refuse_later later.Predicate words
   name ← name_at words
   qualified_at name.0 name.1
 
 -- a column that equals a literal; other predicates are not read yet
-unfoldable pub equality_at : List Placed → Answer (Equality × List Placed)
+unfoldable pub equality_at : List Placed → Parsed (Equality × List Placed)
 equality_at words = do
   column ← column_at words
   _ ← refuse_later later.Comparison column.1
@@ -103,14 +103,14 @@ equality_at words = do
   _ ← refuse_later later.Junction literal.1
   Ok (record { column = column.0; literal = literal.0 }, literal.1)
 
-unfoldable pub filter_at : List Placed → Answer (Option Equality × List Placed)
+unfoldable pub filter_at : List Placed → Parsed (Option Equality × List Placed)
 filter_at words =
     if (skipped wanted.Where words).0
     then (equality_at (skipped wanted.Where words).1 >>= λ equality. Ok (Some equality.0, equality.1))
     else Ok (None, words)
 
 -- what follows DELETE
-unfoldable pub delete_at : List Placed → Answer (Item × List Placed)
+unfoldable pub delete_at : List Placed → Parsed (Item × List Placed)
 delete_at words = do
   words ← wanted_at wanted.From words
   words ← table_at words
@@ -119,7 +119,7 @@ delete_at words = do
   Ok (Delete filter.0, rest)
 
 -- what follows SESSION
-unfoldable pub session_at : List Placed → Answer (Item × List Placed)
+unfoldable pub session_at : List Placed → Parsed (Item × List Placed)
 session_at words = do
   name ← session_name_at words
   rest ← wanted_at wanted.Semicolon name.1
@@ -141,7 +141,7 @@ beginning_of within.Session (Key key.Alter) = begin.Later
 beginning_of within.Session (Key key.Select) = begin.Later
 beginning_of _ _ = begin.Nothing
 
-abbrev pub begun_by : List Column → Beginning → ℕ → List Placed → Answer (Item × List Placed)
+abbrev pub begun_by : List Column → Beginning → ℕ → List Placed → Parsed (Item × List Placed)
 begun_by columns begin.Session line rest = session_at rest
 begun_by columns begin.Insert line rest = insert_at columns rest
 begun_by columns begin.Delete line rest = delete_at rest
@@ -149,6 +149,6 @@ begun_by columns begin.Later line rest = Err (fault.Later line)
 begun_by columns begin.Nothing line rest = Err (fault.Form line)
 
 -- the item in front, and what follows its semicolon
-unfoldable pub item_at : List Column → Within → List Placed → Answer (Item × List Placed)
+unfoldable pub item_at : List Column → Within → List Placed → Parsed (Item × List Placed)
 item_at columns w [] = Err (fault.Form 1)
 item_at columns w (first ∷ rest) = begun_by columns (beginning_of w first.word) first.line rest

@@ -28,8 +28,8 @@ AreRead columns script = AllByRecursion (λ (item : SessionItem). AllByRecursion
 abbrev pub AreNamed : (List ℕ → Type 0) → Script → Type 0
 AreNamed P script = AllByRecursion (λ (item : SessionItem). P item.name) script.sessions
 
-abbrev pub IsPlain : List ℕ → Type 0
-IsPlain name = IsTrue (is_session_name name)
+abbrev pub IsPlainName : List ℕ → Type 0
+IsPlainName name = IsTrue (is_session_name name)
 
 -- the name has no such byte
 abbrev pub HasNo : ℕ → List ℕ → Type 0

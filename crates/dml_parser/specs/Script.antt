@@ -21,7 +21,7 @@ use Rattle.dml_parser.specs.declared.read.Progress.{Progress}
 use Rattle.dml_parser.specs.declared.script.Script.{Script}
 use Rattle.dml_parser.specs.declared.script.SessionItem.{SessionItem}
 use Rattle.dml_parser.specs.declared.script.ScriptFault.TheVariants as fault
-use Rattle.dml_parser.specs.Answer.{Answer}
+use Rattle.dml_parser.specs.Answer.{Parsed}
 use Rattle.dml_parser.specs.Front.{line_of}
 use Rattle.dml_parser.specs.Grammar.{item_at}
 use Rattle.dml_parser.specs.Items.{delete_of, insert_of}
@@ -40,7 +40,7 @@ is_semicolon (Mark mark.Semicolon) = true
 is_semicolon _ = false
 
 -- everything up to the item's semicolon is a word
-unfoldable pub tokens_stand : List Placed → Answer ⊤
+unfoldable pub tokens_stand : List Placed → Parsed ⊤
 tokens_stand [] = Ok tt
 tokens_stand (first ∷ rest) =
     if is_bad first.word then Err (fault.Token first.line) else (if is_semicolon first.word then Ok tt else tokens_stand rest)
@@ -60,13 +60,13 @@ abbrev pub with_statement : Progress → Statement → Progress
 with_statement p statement = record { session = p.session; statements = p.statements ++ statement ∷ [] }
 
 -- what was read after one more item, which begins on this line
-unfoldable pub after_item : List Column → Progress → ℕ → Item → Answer Progress
+unfoldable pub after_item : List Column → Progress → ℕ → Item → Parsed Progress
 after_item columns p line (item.Session name) = text_of name >>= λ text. Ok (with_session p text)
 after_item columns p line (item.Insert rows) = insert_of columns (length p.statements) line rows >>= λ statement. Ok (with_statement p statement)
 after_item columns p line (item.Delete equality) = delete_of columns (length p.statements) line equality >>= λ statement. Ok (with_statement p statement)
 
 -- what was read after the item in front, and what follows it
-unfoldable pub read_item : List Column → Progress → List Placed → Answer (Progress × List Placed)
+unfoldable pub read_item : List Column → Progress → List Placed → Parsed (Progress × List Placed)
 read_item columns p words = do
   _ ← tokens_stand words
   item ← item_at columns (within p.session) words
@@ -78,7 +78,7 @@ ends [] = true
 ends (first ∷ rest) = is_end first.word
 
 -- what was read of all items, fewer than there are words
-unfoldable pub read_items : List Column → List Placed → Progress → List Placed → Answer Progress
+unfoldable pub read_items : List Column → List Placed → Progress → List Placed → Parsed Progress
 read_items columns [] p words = Ok p
 read_items columns (_ ∷ bound) p words =
     if ends words then Ok p else (read_item columns p words >>= λ x. read_items columns bound x.0 x.1)
@@ -90,12 +90,12 @@ sessions_of (Some name) statements = record { name = name; statements = statemen
 abbrev pub script_in : Progress → Script
 script_in p = record { sessions = sessions_of p.session p.statements }
 
-unfoldable pub script_in_text : List Column → List ℕ → Answer Script
+unfoldable pub script_in_text : List Column → List ℕ → Parsed Script
 script_in_text columns text = do
   p ← read_items columns (words_of text) started (words_of text)
   Ok (script_in p)
 
 -- the script that the bytes are, on a table of this schema: at most 1 MiB of UTF-8
-unfoldable pub script_of : List ℕ → TableSchema → Answer Script
+unfoldable pub script_of : List ℕ → TableSchema → Parsed Script
 script_of bytes schema =
     if nat_lt 1048576 (length bytes) then Err (fault.Limit 1) else (text_of bytes >>= script_in_text schema.columns)

@@ -1,7 +1,23 @@
 // The form of an item.
 ghost use Rattle.std.specs.Prelude.{◌≡◌, []};
-ghost use Rattle.dml_parser.specs.Answer.{Gives};
-ghost use Rattle.dml_parser.specs.Grammar.{beginning_of, column_at, delete_at, equality_at, filter_at, insert_at, is_table_name, item_at, more_at, qualified_at, row_at, rows_at, session_at, table_at, tuple_at};
+ghost use Rattle.plain_types.specs.Answers.{Answers};
+ghost use Rattle.dml_parser.specs.Grammar.{
+  beginning_of,
+  column_at,
+  delete_at,
+  equality_at,
+  filter_at,
+  insert_at,
+  is_table_name,
+  item_at,
+  more_at,
+  qualified_at,
+  row_at,
+  rows_at,
+  session_at,
+  table_at,
+  tuple_at,
+};
 
 use crate::ScriptFault;
 use crate::front::{Later, Wanted, line_of, refuse_later, skipped, wanted_at};
@@ -21,7 +37,7 @@ pub(crate) fn is_table_name(name: &[u8]) -> bool
 /// What follows the table's name, which has to be in front. A branch is not read yet.
 #[tactic(auto, unfolding(crate::specs::Grammar::table_at))]
 fn table_at(alloc: Global, words: &[Placed]) -> Result<&[Placed], ScriptFault>
-    ensures { Gives (λ rest. rest.now) result (table_at words.now) }
+    ensures { Answers ScriptFault.Memory (λ rest. rest.now) result (table_at words.now) }
 {
     let (name, rest) = name_at(alloc, words)?;
     if !is_table_name(name.text.as_slice()) {
@@ -34,7 +50,7 @@ fn table_at(alloc: Global, words: &[Placed]) -> Result<&[Placed], ScriptFault>
 /// Whether one more expression follows in a tuple, and what follows the comma or the parenthesis.
 #[tactic(auto, unfolding(crate::specs::Grammar::more_at))]
 fn more_at(words: &[Placed]) -> Result<(bool, &[Placed]), ScriptFault>
-    ensures { Gives (λ x. (x.0, x.1.now)) result (more_at words.now) }
+    ensures { Answers ScriptFault.Memory (λ x. (x.0, x.1.now)) result (more_at words.now) }
 {
     refuse_later(Later::Arithmetic, words)?;
     let (goes_on, rest) = skipped(Wanted::Comma, words);
@@ -52,7 +68,7 @@ fn row_at<'w>(
     columns: &[Column],
     words: &'w [Placed],
 ) -> Result<(List<Literal>, &'w [Placed]), ScriptFault>
-    ensures { Gives (λ x. (x.0, x.1.now)) result (row_at columns.now [] words.now) }
+    ensures { Answers ScriptFault.Memory (λ x. (x.0, x.1.now)) result (row_at columns.now [] words.now) }
 {
     let mut row = List::new(alloc);
     let mut left = columns;
@@ -80,7 +96,7 @@ fn tuple_at<'w>(
     columns: &[Column],
     words: &'w [Placed],
 ) -> Result<(List<Literal>, &'w [Placed]), ScriptFault>
-    ensures { Gives (λ x. (x.0, x.1.now)) result (tuple_at columns.now words.now) }
+    ensures { Answers ScriptFault.Memory (λ x. (x.0, x.1.now)) result (tuple_at columns.now words.now) }
 {
     let words = wanted_at(Wanted::Open, words)?;
     row_at(alloc, columns, words)
@@ -93,7 +109,7 @@ fn rows_at<'w>(
     columns: &[Column],
     words: &'w [Placed],
 ) -> Result<(List<List<Literal>>, &'w [Placed]), ScriptFault>
-    ensures { Gives (λ x. (x.0, x.1.now)) result (rows_at columns.now words.now [] words.now) }
+    ensures { Answers ScriptFault.Memory (λ x. (x.0, x.1.now)) result (rows_at columns.now words.now [] words.now) }
 {
     let mut rows = List::new(alloc);
     let mut rest = words;
@@ -117,7 +133,7 @@ fn insert_at<'w>(
     columns: &[Column],
     words: &'w [Placed],
 ) -> Result<(Item, &'w [Placed]), ScriptFault>
-    ensures { Gives (λ x. (x.0, x.1.now)) result (insert_at columns.now words.now) }
+    ensures { Answers ScriptFault.Memory (λ x. (x.0, x.1.now)) result (insert_at columns.now words.now) }
 {
     let words = wanted_at(Wanted::Into, words)?;
     let words = table_at(alloc, words)?;
@@ -135,7 +151,7 @@ fn qualified_at(
     name: PlacedName,
     words: &[Placed],
 ) -> Result<(ColumnName, &[Placed]), ScriptFault>
-    ensures { Gives (λ x. (x.0, x.1.now)) result (qualified_at name words.now) }
+    ensures { Answers ScriptFault.Memory (λ x. (x.0, x.1.now)) result (qualified_at name words.now) }
 {
     let (goes_on, rest) = skipped(Wanted::Point, words);
     if !goes_on {
@@ -155,7 +171,7 @@ fn qualified_at(
 
 #[tactic(auto, unfolding(crate::specs::Grammar::column_at))]
 fn column_at(alloc: Global, words: &[Placed]) -> Result<(ColumnName, &[Placed]), ScriptFault>
-    ensures { Gives (λ x. (x.0, x.1.now)) result (column_at words.now) }
+    ensures { Answers ScriptFault.Memory (λ x. (x.0, x.1.now)) result (column_at words.now) }
 {
     refuse_later(Later::Predicate, words)?;
     let (name, rest) = name_at(alloc, words)?;
@@ -164,7 +180,7 @@ fn column_at(alloc: Global, words: &[Placed]) -> Result<(ColumnName, &[Placed]),
 
 #[tactic(auto, unfolding(crate::specs::Grammar::equality_at))]
 fn equality_at(alloc: Global, words: &[Placed]) -> Result<(Equality, &[Placed]), ScriptFault>
-    ensures { Gives (λ x. (x.0, x.1.now)) result (equality_at words.now) }
+    ensures { Answers ScriptFault.Memory (λ x. (x.0, x.1.now)) result (equality_at words.now) }
 {
     let (column, words) = column_at(alloc, words)?;
     refuse_later(Later::Comparison, words)?;
@@ -177,7 +193,7 @@ fn equality_at(alloc: Global, words: &[Placed]) -> Result<(Equality, &[Placed]),
 /// The predicate after WHERE, where that is in front, and what follows it.
 #[tactic(auto, unfolding(crate::specs::Grammar::filter_at))]
 fn filter_at(alloc: Global, words: &[Placed]) -> Result<(Option<Equality>, &[Placed]), ScriptFault>
-    ensures { Gives (λ x. (x.0, x.1.now)) result (filter_at words.now) }
+    ensures { Answers ScriptFault.Memory (λ x. (x.0, x.1.now)) result (filter_at words.now) }
 {
     let (goes_on, rest) = skipped(Wanted::Where, words);
     if !goes_on {
@@ -189,7 +205,7 @@ fn filter_at(alloc: Global, words: &[Placed]) -> Result<(Option<Equality>, &[Pla
 
 #[tactic(auto, unfolding(crate::specs::Grammar::delete_at))]
 fn delete_at(alloc: Global, words: &[Placed]) -> Result<(Item, &[Placed]), ScriptFault>
-    ensures { Gives (λ x. (x.0, x.1.now)) result (delete_at words.now) }
+    ensures { Answers ScriptFault.Memory (λ x. (x.0, x.1.now)) result (delete_at words.now) }
 {
     let words = wanted_at(Wanted::From, words)?;
     let words = table_at(alloc, words)?;
@@ -200,7 +216,7 @@ fn delete_at(alloc: Global, words: &[Placed]) -> Result<(Item, &[Placed]), Scrip
 
 #[tactic(auto, unfolding(crate::specs::Grammar::session_at))]
 fn session_at(alloc: Global, words: &[Placed]) -> Result<(Item, &[Placed]), ScriptFault>
-    ensures { Gives (λ x. (x.0, x.1.now)) result (session_at words.now) }
+    ensures { Answers ScriptFault.Memory (λ x. (x.0, x.1.now)) result (session_at words.now) }
 {
     let (name, words) = session_name_at(alloc, words)?;
     let rest = wanted_at(Wanted::Semicolon, words)?;
@@ -272,7 +288,7 @@ pub(crate) fn item_at<'w>(
     within: Within,
     words: &'w [Placed],
 ) -> Result<(Item, &'w [Placed]), ScriptFault>
-    ensures { Gives (λ x. (x.0, x.1.now)) result (item_at columns.now within words.now) }
+    ensures { Answers ScriptFault.Memory (λ x. (x.0, x.1.now)) result (item_at columns.now within words.now) }
 {
     match words {
         [first, rest @ ..] => match beginning_of(within, &first.word) {

@@ -1,6 +1,6 @@
 // The word in front.
 ghost use Rattle.std.specs.Prelude.{◌≡◌};
-ghost use Rattle.dml_parser.specs.Answer.{Gives};
+ghost use Rattle.plain_types.specs.Answers.{Answers};
 ghost use Rattle.dml_parser.specs.Front.{is_later, is_wanted, line_of, refuse_later, skipped, wanted_at};
 
 use crate::ScriptFault;
@@ -83,7 +83,7 @@ pub(crate) fn skipped(wanted: Wanted, words: &[Placed]) -> (bool, &[Placed])
 /// What follows the wanted word, which has to be in front.
 #[tactic(auto, unfolding(crate::specs::Front::wanted_at))]
 pub(crate) fn wanted_at(wanted: Wanted, words: &[Placed]) -> Result<&[Placed], ScriptFault>
-    ensures { Gives (λ rest. rest.now) result (wanted_at wanted words.now) }
+    ensures { Answers ScriptFault.Memory (λ rest. rest.now) result (wanted_at wanted words.now) }
 {
     let (is_there, rest) = skipped(wanted, words);
     if is_there {

@@ -1,6 +1,6 @@
 // What an item means, once its form is known.
 ghost use Rattle.std.specs.Prelude.{◌≡◌, IfOk, codes, []};
-ghost use Rattle.dml_parser.specs.Answer.{Gives};
+ghost use Rattle.plain_types.specs.Answers.{Answers};
 ghost use Rattle.dml_parser.specs.Items.{check_room, column_from, column_of, delete_of, equality_of, filter_of, insert_of, is_column, table_stands, where_of};
 
 use crate::ScriptFault;
@@ -42,7 +42,7 @@ pub(crate) fn insert_of(
     line: u32,
     rows: &[List<Literal>],
 ) -> Result<Statement, ScriptFault>
-    ensures { Gives (λ statement. statement) result (insert_of columns.now count line rows.now) }
+    ensures { Answers ScriptFault.Memory (λ statement. statement) result (insert_of columns.now count line rows.now) }
 {
     let values = values_of_rows(alloc, columns, rows)?;
     check_room(count, line)?;
@@ -107,7 +107,7 @@ fn column_of(columns: &[Column], name: &ColumnName) -> Result<(usize, Kind), Scr
 /// The predicate that the column equals the literal.
 #[tactic(auto, unfolding(crate::specs::Items::equality_of))]
 fn equality_of(alloc: Global, columns: &[Column], equality: &Equality) -> Result<Pred, ScriptFault>
-    ensures { Gives (λ pred. pred) result (equality_of columns.now equality.now) }
+    ensures { Answers ScriptFault.Memory (λ pred. pred) result (equality_of columns.now equality.now) }
 {
     let (at, kind) = column_of(columns, &equality.column)?;
     let value = value_of(alloc, kind, &equality.literal)?;
@@ -126,7 +126,7 @@ fn where_of(
     line: u32,
     equality: &Equality,
 ) -> Result<Pred, ScriptFault>
-    ensures { Gives (λ pred. pred) result (where_of columns.now count line equality.now) }
+    ensures { Answers ScriptFault.Memory (λ pred. pred) result (where_of columns.now count line equality.now) }
 {
     let filter = equality_of(alloc, columns, equality)?;
     check_room(count, line)?;
@@ -141,7 +141,7 @@ fn filter_of(
     line: u32,
     equality: &Option<Equality>,
 ) -> Result<Pred, ScriptFault>
-    ensures { Gives (λ pred. pred) result (filter_of columns.now count line equality.now) }
+    ensures { Answers ScriptFault.Memory (λ pred. pred) result (filter_of columns.now count line equality.now) }
 {
     match equality {
         Some(equality) => where_of(alloc, columns, count, line, equality),
@@ -160,7 +160,7 @@ pub(crate) fn delete_of(
     line: u32,
     equality: &Option<Equality>,
 ) -> Result<Statement, ScriptFault>
-    ensures { Gives (λ statement. statement) result (delete_of columns.now count line equality.now) }
+    ensures { Answers ScriptFault.Memory (λ statement. statement) result (delete_of columns.now count line equality.now) }
 {
     let filter = filter_of(alloc, columns, count, line, equality)?;
     let branch = main_branch(alloc)?;

@@ -3,7 +3,7 @@ ghost use Rattle.std.specs.Prelude.{◌≡◌, ℕ, List, Ok};
 ghost use Rattle.std.specs.Str.{IsUtf8};
 ghost use Rattle.row_values.specs.declared.schema.TableSchema.{TableSchema};
 ghost use Rattle.dml_parser.specs.declared.script.Script.{Script};
-ghost use Rattle.dml_parser.specs.Read.{AreNamed, AreRead, HasNo, IsPlain, IsShort};
+ghost use Rattle.dml_parser.specs.Read.{AreNamed, AreRead, HasNo, IsPlainName, IsShort};
 ghost use Rattle.dml_parser.specs.Script.{script_of};
 
 /// Each statement changes `main`, reads columns that are there, and makes values of the columns' kinds.
@@ -14,7 +14,7 @@ pub fn statements_that_were_read_are_of_the_columns()
 /// A session's name is of letters, digits and low lines, so it is a text that has no hyphen (45)
 /// and no slash (47).
 pub fn sessions_that_were_read_have_plain_names()
-    ensures plain { (bytes : List ℕ) (schema : TableSchema) (script : Script) → script_of bytes schema ≡ Ok script → AreNamed IsPlain script }
+    ensures plain { (bytes : List ℕ) (schema : TableSchema) (script : Script) → script_of bytes schema ≡ Ok script → AreNamed IsPlainName script }
     ensures text { (bytes : List ℕ) (schema : TableSchema) (script : Script) → script_of bytes schema ≡ Ok script → AreNamed IsUtf8 script }
     ensures no_hyphen { (bytes : List ℕ) (schema : TableSchema) (script : Script) → script_of bytes schema ≡ Ok script → AreNamed (HasNo 45) script }
     ensures no_slash { (bytes : List ℕ) (schema : TableSchema) (script : Script) → script_of bytes schema ≡ Ok script → AreNamed (HasNo 47) script }

@@ -12,8 +12,6 @@ mod literal;
 mod raw;
 mod read;
 mod script;
-#[cfg(test)]
-mod tests;
 mod values;
 
 pub use laws::{

@@ -1,6 +1,21 @@
 ghost use Rattle.std.specs.Prelude.{◌≡◌, ◌≢◌, [], Ok, Err, IfOk, IfErr};
-ghost use Rattle.dml_parser.specs.Answer.{Gives};
-ghost use Rattle.dml_parser.specs.Script.{after_item, ends, is_bad, is_end, is_semicolon, read_item, read_items, script_in, script_in_text, script_of, started, tokens_stand, with_statement, within};
+ghost use Rattle.plain_types.specs.Answers.{Answers};
+ghost use Rattle.dml_parser.specs.Script.{
+  after_item,
+  ends,
+  is_bad,
+  is_end,
+  is_semicolon,
+  read_item,
+  read_items,
+  script_in,
+  script_in_text,
+  script_of,
+  started,
+  tokens_stand,
+  with_statement,
+  within,
+};
 ghost use Rattle.dml_parser.specs.Values.{text_of};
 
 use crate::form::{Within, item_at};
@@ -72,7 +87,7 @@ fn within(session: &Option<Text>) -> Within
 }
 
 fn with_statement(progress: Progress, statement: Statement) -> Result<Progress, ScriptFault>
-    ensures { Gives (λ after. after) result (Ok (with_statement progress statement)) }
+    ensures { Answers ScriptFault.Memory (λ after. after) result (Ok (with_statement progress statement)) }
 {
     let Progress {
         session,
@@ -94,7 +109,7 @@ fn after_item(
     line: u32,
     item: &Item,
 ) -> Result<Progress, ScriptFault>
-    ensures { Gives (λ after. after) result (after_item columns.now progress line item.now) }
+    ensures { Answers ScriptFault.Memory (λ after. after) result (after_item columns.now progress line item.now) }
 {
     let count = progress.statements.len();
     match item {
@@ -125,7 +140,7 @@ fn read_item<'w>(
     progress: Progress,
     words: &'w [Placed],
 ) -> Result<(Progress, &'w [Placed]), ScriptFault>
-    ensures { Gives (λ x. (x.0, x.1.now)) result (read_item columns.now progress words.now) }
+    ensures { Answers ScriptFault.Memory (λ x. (x.0, x.1.now)) result (read_item columns.now progress words.now) }
 {
     tokens_stand(words)?;
     let (item, rest) = item_at(alloc, columns, within(&progress.session), words)?;
@@ -154,7 +169,7 @@ fn started(alloc: Global) -> Progress
 /// What was read of all items.
 #[tactic(auto, unfolding(crate::specs::Script::read_items))]
 fn read_items(alloc: Global, columns: &[Column], words: &[Placed]) -> Result<Progress, ScriptFault>
-    ensures { Gives (λ progress. progress) result (read_items columns.now words.now started words.now) }
+    ensures { Answers ScriptFault.Memory (λ progress. progress) result (read_items columns.now words.now started words.now) }
 {
     let mut progress = started(alloc);
     let mut rest = words;
@@ -172,7 +187,7 @@ fn read_items(alloc: Global, columns: &[Column], words: &[Placed]) -> Result<Pro
 }
 
 fn script_in(alloc: Global, progress: Progress) -> Result<Script, ScriptFault>
-    ensures { Gives (λ script. script) result (Ok (script_in progress)) }
+    ensures { Answers ScriptFault.Memory (λ script. script) result (Ok (script_in progress)) }
 {
     let Progress {
         session,
@@ -187,7 +202,7 @@ fn script_in(alloc: Global, progress: Progress) -> Result<Script, ScriptFault>
 
 #[tactic(auto, unfolding(crate::specs::Script::script_in_text))]
 fn script_in_text(alloc: Global, columns: &[Column], text: &str) -> Result<Script, ScriptFault>
-    ensures { Gives (λ script. script) result (script_in_text columns.now text.now) }
+    ensures { Answers ScriptFault.Memory (λ script. script) result (script_in_text columns.now text.now) }
 {
     let words = words_of(alloc, text)?;
     let progress = read_items(alloc, columns, words.as_slice())?;
@@ -196,7 +211,7 @@ fn script_in_text(alloc: Global, columns: &[Column], text: &str) -> Result<Scrip
 
 /// The text that the bytes are.
 fn text_in(bytes: &[u8]) -> Result<&str, ScriptFault>
-    ensures { Gives (λ text. text.now) result (text_of bytes.now) }
+    ensures { Answers ScriptFault.Memory (λ text. text.now) result (text_of bytes.now) }
 {
     match str::from_utf8(bytes) {
         Ok(text) => Ok(text),

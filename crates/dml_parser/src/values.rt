@@ -1,7 +1,22 @@
 // The values that literals are in the columns' kinds.
 ghost use Rattle.std.specs.Prelude.{◌≡◌, []};
-ghost use Rattle.dml_parser.specs.Answer.{Gives};
-ghost use Rattle.dml_parser.specs.Values.{bool_value, digits_of, int_value, limits_of_row, limits_of_rows, literal_limit, long_value, number_value, values_of_row, values_of_rows, text_of, text_value, value_of, whole_of};
+ghost use Rattle.plain_types.specs.Answers.{Answers};
+ghost use Rattle.dml_parser.specs.Values.{
+  bool_value,
+  digits_of,
+  int_value,
+  limits_of_row,
+  limits_of_rows,
+  literal_limit,
+  long_value,
+  number_value,
+  values_of_row,
+  values_of_rows,
+  text_of,
+  text_value,
+  value_of,
+  whole_of,
+};
 
 use crate::ScriptFault;
 use crate::raw::{Literal, Spelling};
@@ -82,7 +97,7 @@ fn bool_value(kind: Kind, holds: bool, line: u32) -> Result<Value, ScriptFault>
 
 /// The text that the bytes are, as every part of a script is one.
 pub(crate) fn text_of(alloc: Global, bytes: &[u8]) -> Result<Text, ScriptFault>
-    ensures { Gives (λ text. text) result (text_of bytes.now) }
+    ensures { Answers ScriptFault.Memory (λ text. text) result (text_of bytes.now) }
 {
     match str::from_utf8(bytes) {
         Ok(text) => Ok(Text::copy_of(alloc, text)?),
@@ -92,7 +107,7 @@ pub(crate) fn text_of(alloc: Global, bytes: &[u8]) -> Result<Text, ScriptFault>
 
 #[tactic(auto, unfolding(crate::specs::Values::text_value))]
 fn text_value(alloc: Global, kind: Kind, bytes: &[u8], line: u32) -> Result<Value, ScriptFault>
-    ensures { Gives (λ value. value) result (text_value kind bytes.now line) }
+    ensures { Answers ScriptFault.Memory (λ value. value) result (text_value kind bytes.now line) }
 {
     match kind {
         Kind::Text => Ok(Value::Text(text_of(alloc, bytes)?)),
@@ -103,7 +118,7 @@ fn text_value(alloc: Global, kind: Kind, bytes: &[u8], line: u32) -> Result<Valu
 /// The value that the literal is in the kind.
 #[tactic(auto, unfolding(crate::specs::Values::value_of))]
 pub(crate) fn value_of(alloc: Global, kind: Kind, literal: &Literal) -> Result<Value, ScriptFault>
-    ensures { Gives (λ value. value) result (value_of kind literal.now) }
+    ensures { Answers ScriptFault.Memory (λ value. value) result (value_of kind literal.now) }
 {
     let line = literal.line;
     match &literal.spelling {
@@ -121,7 +136,7 @@ fn values_of_row(
     columns: &[Column],
     row: &[Literal],
 ) -> Result<List<Expr>, ScriptFault>
-    ensures { Gives (λ values. values) result (values_of_row columns.now [] row.now) }
+    ensures { Answers ScriptFault.Memory (λ values. values) result (values_of_row columns.now [] row.now) }
 {
     let mut values = List::new(alloc);
     let mut left = columns;
@@ -146,7 +161,7 @@ pub(crate) fn values_of_rows(
     columns: &[Column],
     rows: &[List<Literal>],
 ) -> Result<List<List<Expr>>, ScriptFault>
-    ensures { Gives (λ values. values) result (values_of_rows columns.now [] rows.now) }
+    ensures { Answers ScriptFault.Memory (λ values. values) result (values_of_rows columns.now [] rows.now) }
 {
     let mut values = List::new(alloc);
     let mut rest = rows;

@@ -9,18 +9,19 @@ use Rattle.dml_parser.specs.declared.script.Script.{Script}
 use Rattle.table_metadata.specs.Metadata.{Parts}
 use Rattle.table_metadata.specs.declared.metadata_fault.MetadataFault.TheVariants as metadata
 use Rattle.table_names.specs.Versions.{version_name, version_of}
-use Rattle.table_form.specs.Form.{has_form, is_plain_table, is_within_limits}
+use Rattle.table_state.specs.Form.{has_form, is_plain_table, is_within_limits}
 use Rattle.table_state.specs.declared.load_fault.LoadFault.{LoadFault}
 use Rattle.table_state.specs.declared.load_fault.LoadFault.TheVariants as load
-use Rattle.table_state.specs.Files.{current_schema, schema_with, version_at}
-use Rattle.table_state.proofs.Standing.{two_steps}
-use Rattle.session_work.specs.Open.{IsOpen}
+use Rattle.table_state.specs.Files.{current_schema, version_at}
+use Rattle.table_metadata.specs.ById.{schema_with}
+use Rattle.table_state.proofs.CallerLemmas.{two_steps}
+use Rattle.session_steps.specs.Open.{IsOpen}
 use Rattle.dml_program.specs.declared.begin.Begun.{Begun}
 use Rattle.dml_program.specs.declared.status.TableKind.TheVariants.{NoVersion, Later}
 use Rattle.dml_program.specs.declared.status.Status.{Status}
 use Rattle.dml_program.specs.declared.status.Status.TheVariants as status
 use Rattle.dml_program.specs.Beginning.{bad_table, begun_of, opened_at, script_by}
-use Rattle.dml_program.specs.Creating.{Stops, file_given}
+use Rattle.dml_program.specs.Creating.{StopsAt, file_given}
 use Rattle.dml_program.specs.Opening.{Fault, RefusesTable, table_rows}
 use Rattle.dml_program.specs.PlainTable.{plain_version}
 use Rattle.dml_program.proofs.Openings.{of_version}
@@ -29,7 +30,8 @@ use Rattle.dml_program.proofs.MainRows.{form_is, read_version, unfault, version_
 -- ---- the steps of an opening
 
 module _ (table : List ℕ) (files : Files) where
-  pub opened_is : (rows : List (List Value)) (version : ℕ) (p : Parts) → table_rows table files ≡ Ok rows → version_of table files ≡ Some version → version_at table version files ≡ Ok p → opened_at table files ≡ Ok (version, p)
+  pub opened_is : (rows : List (List Value)) (version : ℕ) (p : Parts) → table_rows table files ≡ Ok rows
+      → version_of table files ≡ Some version → version_at table version files ≡ Ok p → opened_at table files ≡ Ok (version, p)
   unfolding opened_at
   opened_is rows version p readable newest read =
       ap (λ (r : Result (List (List Value)) Fault). r >>= λ _. or_fault (NoVersion, table) (version_of table files) >>= λ v. fault_as (λ _. (Later, version_name table v)) (version_at table v files) >>= λ parts. Ok (v, parts)) readable
@@ -42,7 +44,9 @@ module _ (table : List ℕ) (files : Files) where
   not_opened fault e = ap (λ (r : Result (List (List Value)) Fault). r >>= λ _. or_fault (NoVersion, table) (version_of table files) >>= λ v. fault_as (λ _. (Later, version_name table v)) (version_at table v files) >>= λ parts. Ok (v, parts)) e
 
 -- the same of a call that gives it
-pub opened_rows : {X : Type 0} (rows : X → List (List Value)) (p : X → Parts) (v : X → ℕ) (r : Result X Status) (told later : Option Files) → later ≡ told → (table : List ℕ) (version : ℕ) (found : Option ℕ) → found ≡ Some version → ForSome told (λ files. found ≡ version_of table files)
+pub opened_rows : {X : Type 0} (rows : X → List (List Value)) (p : X → Parts) (v : X → ℕ) (r : Result X Status)
+    (told later : Option Files) → later ≡ told → (table : List ℕ) (version : ℕ) (found : Option ℕ) → found ≡ Some version
+    → ForSome told (λ files. found ≡ version_of table files)
     → IfOk r (λ x. ForSome later (λ files. plain_version table version files ≡ Ok (rows x))) → IfOk r (λ x. ForSome later (λ files. version_at table version files ≡ Ok (p x))) → IfOk r (λ x. v x ≡ version) → IfOk r (λ x. ForSome told (λ files. opened_at table files ≡ Ok (v x, p x)))
 opened_rows rows p v (Err s) told later same table version found some newest readable held at = tt
 opened_rows rows p v (Ok x) told later same table version found some newest readable held at = λ files e.
@@ -74,13 +78,18 @@ pair_of version parts = Ok (version, parts)
 
 -- the steps of an opening, from its end
 module _ (table : List ℕ) (at : ℕ → Result Parts LoadFault) (v : ℕ) (p : Parts) where
-  version_behind : (version : ℕ) (r : Result Parts LoadFault) → at version ≡ r → (fault_as {F = Fault} (λ _. (Later, version_name table version)) r >>= λ parts. pair_of version parts) ≡ pair_of v p → (version ≡ v) × (at version ≡ Ok p)
+  version_behind : (version : ℕ) (r : Result Parts LoadFault) → at version ≡ r
+      → (fault_as {F = Fault} (λ _. (Later, version_name table version)) r >>= λ parts. pair_of version parts) ≡ pair_of v p
+      → (version ≡ v) × (at version ≡ Ok p)
   version_behind version (Ok q) is e =
       let pair : ◌≡◌ {A = ℕ × Parts} (version, q) (v, p) = cc in
       (ap (λ (x : ℕ × Parts). x.0) pair, is ∙ ap (λ (x : ℕ × Parts). Ok x.1) pair)
   version_behind version (Err f) is e = absurd cc
 
-  opened_behind : (readable : Result (List (List Value)) Fault) (newest : Option ℕ) → (readable >>= λ _. or_fault {E = Fault} (NoVersion, table) newest >>= λ version. fault_as (λ _. (Later, version_name table version)) (at version) >>= λ parts. pair_of version parts) ≡ pair_of v p
+  opened_behind : (readable : Result (List (List Value)) Fault) (newest : Option ℕ)
+      → (readable >>= λ _. or_fault {E = Fault}
+      (NoVersion, table) newest >>= λ version. fault_as (λ _. (Later, version_name table version))
+      (at version) >>= λ parts. pair_of version parts) ≡ pair_of v p
       → (rows : List (List Value)) × (readable ≡ Ok rows) × (newest ≡ Some v) × (at v ≡ Ok p)
   opened_behind (Err f) newest e = absurd cc
   opened_behind (Ok rows) None e = absurd cc
@@ -96,7 +105,8 @@ abbrev behind : List ℕ → Files → Option (List ℕ) → Result Begun Status
 behind table files bytes = fault_as bad_table (opened_at table files) >>= λ o. or_fault (status.TableBad Later (version_name table o.0)) (schema_with o.1.current_schema o.1.schemas) >>= λ s. script_by s bytes >>= λ t. begins o.0 s t
 
 module _ (table : List ℕ) (files : Files) where
-  pub opens : (version : ℕ) (p : Parts) (schema : TableSchema) → opened_at table files ≡ Ok (version, p) → schema_with p.current_schema p.schemas ≡ Some schema → IsOpen table schema files version
+  pub opens : (version : ℕ) (p : Parts) (schema : TableSchema) → opened_at table files ≡ Ok (version, p)
+      → schema_with p.current_schema p.schemas ≡ Some schema → IsOpen table schema files version
   unfolding opened_at
   opens version p schema opened by_id =
       let behind = opened_behind table (λ v. version_at table v files) version p (table_rows table files) (version_of table files) opened in
@@ -116,7 +126,9 @@ module _ (table : List ℕ) (files : Files) where
 
   module _ (name : List ℕ) (inputs : Files) where
     -- what a run begins with
-    pub begun_is : (bytes : Option (List ℕ)) (version : ℕ) (p : Parts) (schema : TableSchema) (script : Script) → file_given name inputs ≡ Ok bytes → opened_at table files ≡ Ok (version, p) → schema_with p.current_schema p.schemas ≡ Some schema → script_by schema bytes ≡ Ok script
+    pub begun_is : (bytes : Option (List ℕ)) (version : ℕ) (p : Parts) (schema : TableSchema) (script : Script)
+        → file_given name inputs ≡ Ok bytes → opened_at table files ≡ Ok (version, p)
+        → schema_with p.current_schema p.schemas ≡ Some schema → script_by schema bytes ≡ Ok script
         → begun_of table name files inputs ≡ Ok (record { version = version; schema = schema; script = script })
     unfolding begun_of
     begun_is bytes version p schema script given opened by_id read =
@@ -124,13 +136,15 @@ module _ (table : List ℕ) (files : Files) where
         ∙ ap (λ (o : Option TableSchema). or_fault (status.TableBad Later (version_name table version)) o >>= λ s. script_by s bytes >>= λ t. begins version s t) by_id ∙ ap (λ (r : Result Script Status). r >>= λ t. begins version schema t) read
 
     -- or the fault of the table
-    begun_fault : (bytes : Option (List ℕ)) (fault : Fault) → file_given name inputs ≡ Ok bytes → opened_at table files ≡ Err fault → begun_of table name files inputs ≡ Err (bad_table fault)
+    begun_fault : (bytes : Option (List ℕ)) (fault : Fault) → file_given name inputs ≡ Ok bytes
+        → opened_at table files ≡ Err fault → begun_of table name files inputs ≡ Err (bad_table fault)
     unfolding begun_of
     begun_fault bytes fault given e =
         ap (λ (r : Result (Option (List ℕ)) Status). r >>= behind table files) given
         ∙ ap (λ (r : Result (ℕ × Parts) Fault). fault_as bad_table r >>= λ o. or_fault (status.TableBad Later (version_name table o.0)) (schema_with o.1.current_schema o.1.schemas) >>= λ s. script_by s bytes >>= λ t. begins o.0 s t) e
 
-    pub table_stops : (failed : Type 0) (bytes : Option (List ℕ)) (s : Status) → file_given name inputs ≡ Ok bytes → RefusesTable (table_rows table files) s → Stops failed (begun_of table name files inputs) s
+    pub table_stops : (failed : Type 0) (bytes : Option (List ℕ)) (s : Status) → file_given name inputs ≡ Ok bytes
+        → RefusesTable (table_rows table files) s → StopsAt failed (begun_of table name files inputs) s
     table_stops failed bytes (status.TableBad kind path) given refuses = begun_fault bytes (kind, path) given (not_opened table files (kind, path) refuses)
     table_stops failed bytes status.StoreFailed given refuses = tt
     table_stops failed bytes status.Memory given refuses = tt

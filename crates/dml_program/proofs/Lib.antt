@@ -1,7 +1,7 @@
-pub mod Beginnings
-pub mod Creations
-pub mod MainRows
-pub mod Openings
-pub mod Reports
-pub mod ScriptReports
-pub mod ToldAnswers
+mod Beginnings
+mod Creations
+mod MainRows
+mod Openings
+mod Reports
+mod ScriptReports
+mod ToldAnswers

@@ -6,7 +6,7 @@ use Rattle.std.proofs.lemmas.List.Elements.{filter-append}
 use Rattle.plain_types.specs.Steps.{◌>>=◌, or_fault, by_option, fault_as}
 use Rattle.row_values.specs.declared.value.Value.{Value}
 use Rattle.store_core.specs.Files.{Files}
-use Rattle.table_state.proofs.Standing.{two_steps}
+use Rattle.table_state.proofs.CallerLemmas.{two_steps}
 use Rattle.manifest_files.specs.declared.entry.Entry.{Entry}
 use Rattle.manifest_files.specs.declared.manifest_row.ManifestRow.{ManifestRow}
 use Rattle.table_metadata.specs.Metadata.{Parts, metadata_of}
@@ -16,8 +16,9 @@ use Rattle.table_state.specs.declared.load_fault.LoadFault.TheVariants as fault
 use Rattle.table_state.specs.declared.live_set.BranchState.TheVariants as state
 use Rattle.table_names.specs.Versions.{version_name, version_of}
 use Rattle.table_state.specs.Files.{bytes_under, version_at, list_at, manifest_at, data_file_at}
-use Rattle.table_state.specs.Live.{is_live, is_data, set_of, entries_at, head_of, snapshot_with, snapshot_at, head_at, without_head, branch_at, data_rows, data_files_of, rows_at, rows_of_branch}
-use Rattle.table_form.specs.Form.{has_form, is_data_manifest}
+use Rattle.table_state.specs.Live.{is_live, is_data, set_of, entries_at, head_of, snapshot_at, head_at, without_head, branch_at, data_rows, data_files_of, rows_at, rows_of_branch}
+use Rattle.table_metadata.specs.ById.{snapshot_with}
+use Rattle.table_state.specs.Form.{has_form, is_data_manifest}
 use Rattle.dml_program.specs.declared.status.TableKind.TheVariants.{NoVersion, Later}
 use Rattle.dml_program.specs.Opening.{Fault, table_rows}
 use Rattle.dml_program.specs.PlainTable.{or_path, if_form, plain_list, plain_manifest, plain_entries, plain_file, plain_rows, plain_snapshot, plain_main, plain_metadata, plain_version}
@@ -48,7 +49,8 @@ one_ok a b e = cc
 
 -- ---- entries
 
-keep_one : {X : Type 0} (p q : X → Bool) (x : X) (xs : List X) (b c : Bool) → p x ≡ b → q x ≡ c → (b && list_all p xs) ≡ true → (list_all p xs ≡ true → filter p (filter q xs) ≡ filter q xs)
+keep_one : {X : Type 0} (p q : X → Bool) (x : X) (xs : List X) (b c : Bool) → p x ≡ b → q x ≡ c → (b && list_all p xs) ≡ true
+    → (list_all p xs ≡ true → filter p (filter q xs) ≡ filter q xs)
     → filter p (cond c (x ∷ filter q xs) (filter q xs)) ≡ cond c (x ∷ filter q xs) (filter q xs)
 keep_one p q x xs true true px qx all more = rw (px) (ap (λ ys. x ∷ ys) (more all))
 keep_one p q x xs true false px qx all more = more all
@@ -67,19 +69,24 @@ module _ (table : List ℕ) (parts : Parts) (files : Files) where
       let f = formed path s.0 (list_all is_data_manifest s.0) rows s.2 in
       unfault (λ g. path) (list_at table parts path files) s.0 s.1 ∙ ap Ok f.0
 
-  read_manifest : (row : ManifestRow) (live : List Entry) → plain_manifest table parts row files ≡ Ok live → (entries : List Entry) × (manifest_at table parts row files ≡ Ok entries) × (filter is_live entries ≡ live) × (list_all is_data entries ≡ true)
+  read_manifest : (row : ManifestRow) (live : List Entry) → plain_manifest table parts row files ≡ Ok live
+      → (entries : List Entry) × (manifest_at table parts row files ≡ Ok entries) × (filter is_live entries ≡ live)
+      × (list_all is_data entries ≡ true)
   unfolding plain_manifest
   read_manifest row live e =
       let s = two_steps (or_path row.manifest_path (manifest_at table parts row files)) (λ found. if_form row.manifest_path (filter is_live found) (list_all is_data found)) live e in
       let f = formed row.manifest_path (filter is_live s.0) (list_all is_data s.0) live s.2 in
       (s.0, unfault (λ g. row.manifest_path) (manifest_at table parts row files) s.0 s.1, f.0, f.1)
 
-  joined : (before earlier entries live : List Entry) → filter is_data (filter is_live before) ≡ earlier → filter is_live entries ≡ live → list_all is_data entries ≡ true → filter is_data (filter is_live (before ++ entries)) ≡ earlier ++ live
+  joined : (before earlier entries live : List Entry) → filter is_data (filter is_live before) ≡ earlier
+      → filter is_live entries ≡ live → list_all is_data entries ≡ true
+      → filter is_data (filter is_live (before ++ entries)) ≡ earlier ++ live
   joined before earlier entries live same kept all =
       ap (filter is_data) (filter-append is_live before entries) ∙ filter-append is_data (filter is_live before) (filter is_live entries)
       ∙ ap (λ xs. xs ++ filter is_data (filter is_live entries)) same ∙ ap (λ xs. earlier ++ xs) (all_kept is_data is_live entries all ∙ kept)
 
-  read_entries : (before earlier : List Entry) → filter is_data (filter is_live before) ≡ earlier → (rows : List ManifestRow) (live : List Entry) → plain_entries table parts earlier rows files ≡ Ok live
+  read_entries : (before earlier : List Entry) → filter is_data (filter is_live before) ≡ earlier
+      → (rows : List ManifestRow) (live : List Entry) → plain_entries table parts earlier rows files ≡ Ok live
       → (all : List Entry) × (entries_at table parts before rows files ≡ Ok all) × (filter is_data (filter is_live all) ≡ live)
   unfolding plain_entries entries_at
   read_entries before earlier same [] live e = (before, refl, same ∙ one_ok earlier live e)
@@ -89,7 +96,8 @@ module _ (table : List ℕ) (parts : Parts) (files : Files) where
       let r = read_entries (before ++ m.0) (earlier ++ s.0) (joined before earlier m.0 s.0 same m.2 m.3) rows live s.2 in
       (r.0, then_ok (manifest_at table parts row files) (λ entries. entries_at table parts (before ++ entries) rows files) m.0 m.1 ∙ r.1, r.2)
 
-  read_rows : (earlier : List (List Value)) (entries : List Entry) (rows : List (List Value)) → plain_rows table parts earlier entries files ≡ Ok rows → data_rows table parts earlier entries files ≡ Ok rows
+  read_rows : (earlier : List (List Value)) (entries : List Entry) (rows : List (List Value))
+      → plain_rows table parts earlier entries files ≡ Ok rows → data_rows table parts earlier entries files ≡ Ok rows
   unfolding plain_rows data_rows
   read_rows earlier [] rows e = cc
   read_rows earlier (entry ∷ entries) rows e =
@@ -97,7 +105,8 @@ module _ (table : List ℕ) (parts : Parts) (files : Files) where
       then_ok (data_file_at table parts entry.path files) (λ more. data_rows table parts (earlier ++ more) entries files) s.0 (unfault (λ g. entry.path) (data_file_at table parts entry.path files) s.0 s.1)
       ∙ read_rows (earlier ++ s.0) entries rows s.2
 
-  read_snapshot : (snapshot : Snapshot) (rows : List (List Value)) → plain_snapshot table parts snapshot files ≡ Ok rows → (snapshot_at table parts snapshot files >>= λ found. data_rows table parts [] (data_files_of found) files) ≡ Ok rows
+  read_snapshot : (snapshot : Snapshot) (rows : List (List Value)) → plain_snapshot table parts snapshot files ≡ Ok rows
+      → (snapshot_at table parts snapshot files >>= λ found. data_rows table parts [] (data_files_of found) files) ≡ Ok rows
   unfolding plain_snapshot snapshot_at
   read_snapshot snapshot rows e =
       let s = two_steps (plain_list table parts snapshot.list files) (λ listed. plain_entries table parts [] listed files >>= λ live. plain_rows table parts [] live files) rows e in
@@ -109,7 +118,9 @@ module _ (table : List ℕ) (parts : Parts) (files : Files) where
       ∙ then_ok (entries_at table parts [] s.0 files) (λ entries. Ok (state.Head snapshot.id s.0 (set_of entries))) r.0 r.1)
       ∙ ap (λ live. data_rows table parts [] live files) r.2 ∙ read_rows [] t.0 rows t.2
 
-  main_found : (name : List ℕ) (head : Option ℤ) (rows : List (List Value)) → by_option head (λ id. or_fault name (snapshot_with id parts.snapshots) >>= λ snapshot. plain_snapshot table parts snapshot files) (Ok []) ≡ Ok rows
+  main_found : (name : List ℕ) (head : Option ℤ) (rows : List (List Value))
+      → by_option head (λ id. or_fault name (snapshot_with id parts.snapshots) >>= λ snapshot. plain_snapshot table parts snapshot files)
+      (Ok []) ≡ Ok rows
       → (by_option head (λ id. head_at table parts (codes "main") id files) (Ok (without_head (codes "main"))) >>= λ found. data_rows table parts [] (data_files_of found) files) ≡ Ok rows
   unfolding head_at data_rows
   main_found name None rows e = cc
@@ -129,7 +140,8 @@ read_metadata name version bytes parts e =
     let s = two_steps (or_path name (metadata_of bytes)) (λ found. if_form name found (has_form version found)) parts e in
     unfault (λ g. name) (metadata_of bytes) s.0 s.1 ∙ ap Ok (formed name s.0 (has_form version s.0) parts s.2).0
 
-pub read_version : (table : List ℕ) (version : ℕ) (files : Files) (rows : List (List Value)) → plain_version table version files ≡ Ok rows → rows_of_branch table version (codes "main") files ≡ Ok rows
+pub read_version : (table : List ℕ) (version : ℕ) (files : Files) (rows : List (List Value))
+    → plain_version table version files ≡ Ok rows → rows_of_branch table version (codes "main") files ≡ Ok rows
 unfolding plain_version rows_of_branch version_at
 read_version table version files rows e =
     let name = version_name table version in
@@ -140,14 +152,18 @@ read_version table version files rows e =
     ∙ read_main table t.0 files name rows t.2
 
 -- the metadata that is read for the rows is the version's, and of the form that is read
-pub version_is : (table : List ℕ) (version : ℕ) (files : Files) (name bytes : List ℕ) (parts : Parts) → name ≡ version_name table version → or_fault name (map.get files name) ≡ Ok bytes → plain_metadata name version bytes ≡ Ok parts → version_at table version files ≡ Ok parts
+pub version_is : (table : List ℕ) (version : ℕ) (files : Files) (name bytes : List ℕ) (parts : Parts)
+    → name ≡ version_name table version → or_fault name (map.get files name) ≡ Ok bytes
+    → plain_metadata name version bytes ≡ Ok parts → version_at table version files ≡ Ok parts
 unfolding version_at
 version_is table version files name bytes parts is there read =
     let named = version_name table version in
     let stands : bytes_under named named files ≡ Ok bytes = subst (λ (n : List ℕ). or_fault (fault.Missing n) (map.get files n) ≡ Ok bytes) is (refault name (fault.Missing name) (map.get files name) bytes there) in
     then_ok (bytes_under named named files) (λ b. fault_as fault.Metadata (metadata_of b)) bytes stands ∙ ap (fault_as fault.Metadata) (read_metadata name version bytes parts read)
 
-pub form_is : (table : List ℕ) (version : ℕ) (files : Files) (rows : List (List Value)) → plain_version table version files ≡ Ok rows → (parts : Parts) × (version_at table version files ≡ Ok parts) × (has_form version parts ≡ true)
+pub form_is : (table : List ℕ) (version : ℕ) (files : Files) (rows : List (List Value))
+    → plain_version table version files ≡ Ok rows → (parts : Parts) × (version_at table version files ≡ Ok parts)
+    × (has_form version parts ≡ true)
 unfolding plain_version plain_metadata
 form_is table version files rows e =
     let name = version_name table version in
@@ -158,16 +174,20 @@ form_is table version files rows e =
     (t.0, version_is table version files name s.0 t.0 refl s.1 t.1, subst (λ (p : Parts). has_form version p ≡ true) f.0 f.1)
 
 -- the current version of a table whose rows can be read
-pub version_of_rows : (table : List ℕ) (files : Files) (rows : List (List Value)) → table_rows table files ≡ Ok rows → (version : ℕ) × (version_of table files ≡ Some version) × (plain_version table version files ≡ Ok rows)
+pub version_of_rows : (table : List ℕ) (files : Files) (rows : List (List Value)) → table_rows table files ≡ Ok rows
+    → (version : ℕ) × (version_of table files ≡ Some version) × (plain_version table version files ≡ Ok rows)
 unfolding table_rows
 version_of_rows table files rows e = of_found table files rows (version_of table files) refl e
   where
-    of_found : (table : List ℕ) (files : Files) (rows : List (List Value)) (current : Option ℕ) → version_of table files ≡ current → by_option current (λ version. fault_as {F = Fault} (λ path. (Later, path)) (plain_version table version files)) (Err (NoVersion, table)) ≡ Ok rows
+    of_found : (table : List ℕ) (files : Files) (rows : List (List Value)) (current : Option ℕ) → version_of table files ≡ current
+        → by_option current (λ version. fault_as {F = Fault} (λ path. (Later, path)) (plain_version table version files))
+        (Err (NoVersion, table)) ≡ Ok rows
         → (version : ℕ) × (version_of table files ≡ Some version) × (plain_version table version files ≡ Ok rows)
     of_found table files rows (Some version) is e = (version, is, unfault {F = Fault} (λ path. (Later, path)) (plain_version table version files) rows e)
     of_found table files rows None is e = cc
 
-pub rows_of_main : (table : List ℕ) (files : Files) (rows : List (List Value)) → table_rows table files ≡ Ok rows → (version : ℕ) × (version_of table files ≡ Some version) × (rows_of_branch table version (codes "main") files ≡ Ok rows)
+pub rows_of_main : (table : List ℕ) (files : Files) (rows : List (List Value)) → table_rows table files ≡ Ok rows → (version : ℕ)
+    × (version_of table files ≡ Some version) × (rows_of_branch table version (codes "main") files ≡ Ok rows)
 rows_of_main table files rows e =
     let found = version_of_rows table files rows e in
     (found.0, found.1, read_version table found.0 files rows found.2)

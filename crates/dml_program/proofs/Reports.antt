@@ -2,7 +2,7 @@
 use Rattle.std.proofs.Common.{◌≡◌, ◌⊎◌, inl, inr, ℕ, List, Option, refl, sym, ap, subst, ◌∙◌, arith}
 use Rattle.plain_types.specs.Causes.{Rose, RoseTwice}
 use Rattle.store_core.specs.Files.{Files}
-use Rattle.dml_program.specs.Answers.{Answer, done, refused, Carries, IsFault, Leaves, Prints, report_lines, status_of}
+use Rattle.dml_program.specs.Answers.{Answer, done, refused, Carries, IsFault, LeavesAnswered, Prints, report_lines, status_of}
 use Rattle.dml_program.specs.Causes.{HasStoreCause}
 use Rattle.dml_program.specs.Statuses.{fault_lines}
 use Rattle.dml_program.specs.declared.status.Status.{Status}
@@ -33,7 +33,7 @@ module _ (a : Answer) (lines : List ℕ) (s : Status) (prints : Prints a lines) 
       by_answer (refused reason) p e = absurd p
 
 -- want of memory may come where a status is refused
-pub memory_leaves : (a : Answer) (s : Status) (files : Files) (new : Option Files) → IsFault s → Leaves a s files new → Leaves a status.Memory files new
+pub memory_leaves : (a : Answer) (s : Status) (files : Files) (new : Option Files) → IsFault s → LeavesAnswered a s files new → LeavesAnswered a status.Memory files new
 memory_leaves a status.Usage files new r left = inl left
 memory_leaves a (status.ScriptBad line sort) files new r left = inl left
 memory_leaves a (status.TableBad kind path) files new r left = inl left
@@ -67,7 +67,9 @@ ends_in a s result is (inl e) = inr (e ∙ ap status_of (sym is))
 ends_in a s result is (inr e) = inl e
 
 -- where nothing failed, a call that stopped ends with the wanted answer, or with want of memory
-pub completes : (failed : Type 0) (a : Answer) (s result : Status) (before now unsettled : ℕ) → IsFault s → Carries failed a s → HasStoreCause s before now unsettled → ¬ failed → ¬ (Rose before now) → (result ≡ s) ⊎ (result ≡ status.Memory) → (result ≡ status.Memory) ⊎ (result ≡ status_of a)
+pub completes : (failed : Type 0) (a : Answer) (s result : Status) (before now unsettled : ℕ) → IsFault s → Carries failed a s
+    → HasStoreCause s before now unsettled → ¬ failed → ¬ (Rose before now) → (result ≡ s) ⊎ (result ≡ status.Memory)
+    → (result ≡ status.Memory) ⊎ (result ≡ status_of a)
 completes failed a status.Usage result before now unsettled r c cause none kept is = ends_in a status.Usage result c is
 completes failed a (status.ScriptBad line sort) result before now unsettled r c cause none kept is = ends_in a (status.ScriptBad line sort) result c is
 completes failed a (status.TableBad kind path) result before now unsettled r c cause none kept is = ends_in a (status.TableBad kind path) result c is
@@ -82,13 +84,15 @@ completes failed a status.Refused result before now unsettled r c cause none kep
 completes failed a status.OutputFailed result before now unsettled r c cause none kept is = absurd r
 
 -- the files that are left, whatever the status that is written
-pub left_by : (a : Answer) (s result : Status) (files : Files) (new : Option Files) → IsFault s → Leaves a s files new → (result ≡ s) ⊎ (result ≡ status.Memory) → Leaves a result files new
-left_by a s result files new r left (inl e) = subst (λ t. Leaves a t files new) (sym e) left
-left_by a s result files new r left (inr e) = subst (λ t. Leaves a t files new) (sym e) (memory_leaves a s files new r left)
+pub left_by : (a : Answer) (s result : Status) (files : Files) (new : Option Files) → IsFault s → LeavesAnswered a s files new
+    → (result ≡ s) ⊎ (result ≡ status.Memory) → LeavesAnswered a result files new
+left_by a s result files new r left (inl e) = subst (λ t. LeavesAnswered a t files new) (sym e) left
+left_by a s result files new r left (inr e) = subst (λ t. LeavesAnswered a t files new) (sym e) (memory_leaves a s files new r left)
 
-pub done_leaves : (a : Answer) (s : Status) (files : Files) (new : Option Files) → Leaves a status.Done files new → (s ≡ status.Done) ⊎ (s ≡ status.OutputFailed) → Leaves a s files new
-done_leaves a s files new left (inl e) = subst (λ t. Leaves a t files new) (sym e) left
-done_leaves a s files new left (inr e) = subst (λ t. Leaves a t files new) (sym e) left
+pub done_leaves : (a : Answer) (s : Status) (files : Files) (new : Option Files) → LeavesAnswered a status.Done files new
+    → (s ≡ status.Done) ⊎ (s ≡ status.OutputFailed) → LeavesAnswered a s files new
+done_leaves a s files new left (inl e) = subst (λ t. LeavesAnswered a t files new) (sym e) left
+done_leaves a s files new left (inr e) = subst (λ t. LeavesAnswered a t files new) (sym e) left
 
 -- what a call that stopped ends with
 pub carried_on : (failed : Type 0) (a : Answer) (s result : Status) → Carries failed a s → (result ≡ s) ⊎ (result ≡ status.Memory) → Carries failed a result

@@ -6,27 +6,27 @@ use Rattle.plain_types.specs.Steps.{◌>>=◌, or_fault}
 use Rattle.row_values.specs.declared.schema.TableSchema.{TableSchema}
 use Rattle.store_core.specs.Files.{Files}
 use Rattle.store_core.specs.Written.{appended}
-use Rattle.file_names.specs.declared.names.Names.{Names}
-use Rattle.report_lines.specs.declared.event.Stepped.{Stepped}
+use Rattle.table_names.specs.declared.names.Names.{Names}
+use Rattle.session_machine.specs.declared.event.Stepped.{Stepped}
 use Rattle.command_line.specs.Words.{Wanted, rows, create, run}
 use Rattle.table_state.specs.declared.load_fault.LoadFault.{LoadFault}
 use Rattle.table_state.specs.declared.load_fault.LoadFault.TheVariants as load
 use Rattle.table_state.specs.Live.{rows_of_branch}
-use Rattle.branch_rows.specs.Rows.{current_rows}
-use Rattle.session_work.specs.Open.{IsOpen}
+use Rattle.schedule_runner.specs.Rows.{current_rows}
+use Rattle.session_steps.specs.Open.{IsOpen}
 use Rattle.session_steps.specs.declared.fault.RunFault.{RunFault}
 use Rattle.session_steps.specs.declared.fault.RunFault.TheVariants as fault
 use Rattle.session_steps.specs.Steps.{LeavesOthers}
-use Rattle.session_loop.specs.Outcome.{IsOutcome, first_place}
-use Rattle.session_loop.proofs.Outcomes.{unbegun}
-use Rattle.session_loop.specs.Scripts.{statements_in}
+use Rattle.schedule_runner.specs.Outcome.{IsOutcome, first_place}
+use Rattle.schedule_runner.proofs.CallerLemmas.{unbegun}
+use Rattle.schedule_runner.specs.Scripts.{statements_in}
 use Rattle.dml_program.specs.declared.begin.Begun.{Begun}
 use Rattle.dml_program.specs.declared.status.Status.{Status}
 use Rattle.dml_program.specs.declared.status.Status.TheVariants as status
-use Rattle.dml_program.specs.Answers.{Answer, Carries, IsFault, Leaves, RunsNothing, Writes, refused, report_lines}
+use Rattle.dml_program.specs.Answers.{Answer, Carries, IsFault, LeavesAnswered, RunsNothing, Writes, refused, report_lines}
 use Rattle.dml_program.specs.Beginning.{begun_of}
 use Rattle.dml_program.specs.Causes.{HasInputCause, HasStoreCause, IsSettled, IsSettledBy, IsUnbegun}
-use Rattle.dml_program.specs.Creating.{Stops}
+use Rattle.dml_program.specs.Creating.{StopsAt}
 use Rattle.dml_program.specs.Opening.{load_status}
 use Rattle.dml_program.specs.ScriptRuns.{IsBroken, IsRan, IsRunEnd, IsTold, IsUnread, IsWhole, OfRun, names_in, status_of_fault, status_of_steps}
 use Rattle.run_report.specs.Report.{lines_of_branch, lines_of_steps}
@@ -37,11 +37,13 @@ use Rattle.dml_program.proofs.Beginnings.{begins_open}
 -- ---- a run that began
 
 -- an open table's rows are those of its current version
-pub open_rows : (table : List ℕ) (schema : TableSchema) (files : Files) (current : ℕ) (is : IsOpen table schema files current) → current_rows table (codes "main") files ≡ Ok is.rows
+pub open_rows : (table : List ℕ) (schema : TableSchema) (files : Files) (current : ℕ) (is : IsOpen table schema files current)
+    → current_rows table (codes "main") files ≡ Ok is.rows
 open_rows table schema files current is = ap (λ (o : Option ℕ). or_fault (load.Missing table) o >>= λ version. rows_of_branch table version (codes "main") files) is.newest ∙ is.told
 
 -- the causes of a run are those of its status
-pub stop_cause : (table : List ℕ) (names : List (List ℕ)) (f : RunFault) (result : Status) (before now unsettled : ℕ) → (result ≡ status.Memory) ⊎ (result ≡ status_of_fault table names f)
+pub stop_cause : (table : List ℕ) (names : List (List ℕ)) (f : RunFault) (result : Status) (before now unsettled : ℕ)
+    → (result ≡ status.Memory) ⊎ (result ≡ status_of_fault table names f)
     → (f ≡ fault.Store → Rose before now × (0 < unsettled)) → ((session statement : ℕ) → f ≡ fault.Unknown session statement → RoseTwice before now × (2 ≤ unsettled)) → HasStoreCause result before now unsettled
 stop_cause table names f result before now unsettled (inl e) store unknown = subst (λ (s : Status). HasStoreCause s before now unsettled) (sym e) tt
 stop_cause table names fault.Store result before now unsettled (inr e) store unknown = subst (λ (s : Status). HasStoreCause s before now unsettled) (sym e) (store refl)
@@ -52,7 +54,9 @@ stop_cause table names (fault.Limit name) result before now unsettled (inr e) st
 stop_cause table names fault.Memory result before now unsettled (inr e) store unknown = subst (λ (s : Status). HasStoreCause s before now unsettled) (sym e) tt
 
 -- and hold since it began
-pub later_cause : (result : Status) (before middle now unsettled : ℕ) → ((session : List ℕ) (number : ℕ) → result ≡ status.StateUnknown session number → ⊥) → before ≤ middle → HasStoreCause result middle now unsettled → HasStoreCause result before now unsettled
+pub later_cause : (result : Status) (before middle now unsettled : ℕ)
+    → ((session : List ℕ) (number : ℕ) → result ≡ status.StateUnknown session number → ⊥) → before ≤ middle
+    → HasStoreCause result middle now unsettled → HasStoreCause result before now unsettled
 later_cause status.StoreFailed before middle now unsettled known later cause = ((let rose = cause.0 in omega arith), cause.1)
 later_cause (status.StateUnknown session number) before middle now unsettled known later cause = absurd (known session number refl)
 later_cause status.Done before middle now unsettled known later cause = tt
@@ -65,11 +69,14 @@ later_cause status.OutputFailed before middle now unsettled known later cause = 
 later_cause status.Memory before middle now unsettled known later cause = tt
 
 -- the names that it leaves as they were, of files that are told
-pub others_told : (table : List ℕ) (names : Names) (old new : Option Files) (start files : Files) → old ≡ Some start → new ≡ Some files → LeavesOthers table names old new → LeavesOthers table names (Some start) (Some files)
+pub others_told : (table : List ℕ) (names : Names) (old new : Option Files) (start files : Files) → old ≡ Some start
+    → new ≡ Some files → LeavesOthers table names old new → LeavesOthers table names (Some start) (Some files)
 others_told table names old new start files is made others = subst (LeavesOthers table names (Some start)) made (subst (λ (o : Option Files). LeavesOthers table names o new) is others)
 
 -- a run that began, by what was made of it and what was told
-pub ran : (table : List ℕ) (begun : Begun) (start files : Files) (was : IsOpen table begun.schema start begun.version) (steps told_steps : List Stepped) (ended told_ended : Option RunFault) (result : Status) (old new : Option (List ℕ)) (before now : ℕ)
+pub ran : (table : List ℕ) (begun : Begun) (start files : Files) (was : IsOpen table begun.schema start begun.version)
+    (steps told_steps : List Stepped) (ended told_ended : Option RunFault) (result : Status) (old new : Option (List ℕ))
+    (before now : ℕ)
     → ended ≡ told_ended → told_steps ≡ steps → IsOutcome table begun.schema [] (statements_in begun.script) start begun.version (first_place 0) was files steps ended → IsTold table (names_in begun.script) files told_steps told_ended result old new before now
     → (names : Names) → LeavesOthers table names (Some start) (Some files) → IsRan table begun start files result old new before now
 ran table begun start files was steps told_steps ended told_ended result old new before now is told outcome report names others = record {
@@ -85,12 +92,13 @@ ran table begun start files was steps told_steps ended told_ended result old new
 -- ---- a run that could not begin
 
 -- a status of what is wrong, or of what failed, where this is wanted
-pub stops_carry : {A : Type 0} (failed : Type 0) (wanted : Result A Status) (s result : Status) → Stops failed wanted s → (result ≡ s) ⊎ (result ≡ status.Memory) → IfErr wanted (λ reason. Carries failed (refused reason) result)
+pub stops_carry : {A : Type 0} (failed : Type 0) (wanted : Result A Status) (s result : Status) → StopsAt failed wanted s
+    → (result ≡ s) ⊎ (result ≡ status.Memory) → IfErr wanted (λ reason. Carries failed (refused reason) result)
 stops_carry failed (Ok a) s result stops is = tt
 stops_carry failed (Err reason) s result stops (inr e) = subst (Carries failed (refused reason)) (sym e) tt
 stops_carry failed (Err reason) s result stops (inl e) = subst (Carries failed (refused reason)) (sym e) (carried _ failed reason s stops)
   where
-    carried : (A : Type 0) (failed : Type 0) (reason s : Status) → Stops {A = A} failed (Err reason) s → Carries failed (refused reason) s
+    carried : (A : Type 0) (failed : Type 0) (reason s : Status) → StopsAt {A = A} failed (Err reason) s → Carries failed (refused reason) s
     carried A failed reason (status.ScriptBad line sort) stops = cc
     carried A failed reason (status.TableBad kind path) stops = cc
     carried A failed reason status.StoreFailed stops = tt
@@ -104,12 +112,16 @@ stops_carry failed (Err reason) s result stops (inl e) = subst (Carries failed (
     carried A failed reason status.OutputFailed stops = absurd stops
 
 -- where nothing failed it is what is wrong, or want of memory
-pub stops_complete : {A : Type 0} (failed : Type 0) (wanted : Result A Status) (s result : Status) (before now unsettled : ℕ) → Stops failed wanted s → HasStoreCause s before now unsettled → IsUnbegun s → ¬ failed → ¬ (Rose before now) → (result ≡ s) ⊎ (result ≡ status.Memory) → IfErr wanted (λ reason. (result ≡ status.Memory) ⊎ (result ≡ reason))
+pub stops_complete : {A : Type 0} (failed : Type 0) (wanted : Result A Status) (s result : Status) (before now unsettled : ℕ)
+    → StopsAt failed wanted s → HasStoreCause s before now unsettled → IsUnbegun s → ¬ failed → ¬ (Rose before now)
+    → (result ≡ s) ⊎ (result ≡ status.Memory) → IfErr wanted (λ reason. (result ≡ status.Memory) ⊎ (result ≡ reason))
 stops_complete failed (Ok a) s result before now unsettled stops cause kind none quiet is = tt
 stops_complete failed (Err reason) s result before now unsettled stops cause kind none quiet (inr e) = inl e
 stops_complete failed (Err reason) s result before now unsettled stops cause kind none quiet (inl e) = completed _ failed reason s result before now unsettled stops cause kind none quiet e
   where
-    completed : (A : Type 0) (failed : Type 0) (reason s result : Status) (before now unsettled : ℕ) → Stops {A = A} failed (Err reason) s → HasStoreCause s before now unsettled → IsUnbegun s → ¬ failed → ¬ (Rose before now) → result ≡ s → (result ≡ status.Memory) ⊎ (result ≡ reason)
+    completed : (A : Type 0) (failed : Type 0) (reason s result : Status) (before now unsettled : ℕ)
+        → StopsAt {A = A} failed (Err reason) s → HasStoreCause s before now unsettled → IsUnbegun s → ¬ failed
+        → ¬ (Rose before now) → result ≡ s → (result ≡ status.Memory) ⊎ (result ≡ reason)
     completed A failed reason (status.ScriptBad line sort) result before now unsettled stops cause k none quiet e = inr cc
     completed A failed reason (status.TableBad kind path) result before now unsettled stops cause k none quiet e = inr cc
     completed A failed reason status.StoreFailed result before now unsettled stops cause k none quiet e = absurd (quiet cause.0)
@@ -138,7 +150,7 @@ none_refused (Ok b) a P is = tt
 none_refused (Err reason) a P is = absurd cc
 
 -- the files stay as they were
-pub stops_leave : (reason s : Status) (files : Files) (new : Option Files) → new ≡ Some files → Leaves (refused reason) s files new
+pub stops_leave : (reason s : Status) (files : Files) (new : Option Files) → new ≡ Some files → LeavesAnswered (refused reason) s files new
 stops_leave reason status.Done files new same = same
 stops_leave reason status.Refused files new same = same
 stops_leave reason status.Usage files new same = same
@@ -215,11 +227,14 @@ module _ (files : Files) (old new : Option (List ℕ)) (before now : ℕ) (left 
   Held table begun t = IsUnread t failed_before failed_now files left ⊎ ((n : Files) × (left ≡ Some n) × IsRan table begun files n t old new before now)
 
   module _ (table name : List ℕ) (inputs : Files) (same : left ≡ Some files) where
-    out_of_memory : (begun : Begun) → begun_of table name files inputs ≡ Ok begun → (t : Status) → t ≡ status.Memory → Writes (fault_lines t) old new before now → Held table begun t
+    out_of_memory : (begun : Begun) → begun_of table name files inputs ≡ Ok begun → (t : Status) → t ≡ status.Memory
+        → Writes (fault_lines t) old new before now → Held table begun t
     out_of_memory begun e t m w =
         subst (Held table begun) (sym m) (inr (files, same, memory_out table name files inputs begun e old new before now (nothing_written old new before now (subst (λ (u : Status). Writes (fault_lines u) old new before now) m w))))
 
-    by_status : (begun : Begun) → begun_of table name files inputs ≡ Ok begun → (t : Status) → Stops {A = Begun} (Rose failed_before failed_now) (Ok begun) t → IsUnbegun t → Writes (fault_lines t) old new before now → Held table begun t
+    by_status : (begun : Begun) → begun_of table name files inputs ≡ Ok begun → (t : Status)
+        → StopsAt {A = Begun} (Rose failed_before failed_now) (Ok begun) t → IsUnbegun t → Writes (fault_lines t) old new before now
+        → Held table begun t
     by_status begun e (status.ScriptBad line k) stopped u w = absurd cc
     by_status begun e (status.TableBad k path) stopped u w = absurd cc
     by_status begun e status.StoreFailed stopped u w = inr (files, same, store_failed table name files inputs begun e old new before now w)
@@ -232,15 +247,21 @@ module _ (files : Files) (old new : Option (List ℕ)) (before now : ℕ) (left 
     by_status begun e status.Usage stopped u w = absurd u
     by_status begun e status.OutputFailed stopped u w = absurd u
 
-    by_end : (begun : Begun) → begun_of table name files inputs ≡ Ok begun → (s result : Status) → Stops {A = Begun} (Rose failed_before failed_now) (Ok begun) s → IsUnbegun s → (result ≡ s) ⊎ (result ≡ status.Memory) → Writes (fault_lines result) old new before now → Held table begun result
+    by_end : (begun : Begun) → begun_of table name files inputs ≡ Ok begun → (s result : Status)
+        → StopsAt {A = Begun} (Rose failed_before failed_now) (Ok begun) s → IsUnbegun s → (result ≡ s) ⊎ (result ≡ status.Memory)
+        → Writes (fault_lines result) old new before now → Held table begun result
     by_end begun e s result stopped kind (inl t) writes = subst (Held table begun) (sym t) (by_status begun e s stopped kind (subst (λ (u : Status). Writes (fault_lines u) old new before now) t writes))
     by_end begun e s result stopped kind (inr m) writes = out_of_memory begun e result m writes
 
-    by_result : (r : Result Begun Status) → begun_of table name files inputs ≡ r → (s result : Status) → Stops (Rose failed_before failed_now) r s → IsUnbegun s → (result ≡ s) ⊎ (result ≡ status.Memory) → Writes (fault_lines result) old new before now → IfOk r (λ begun. Held table begun result)
+    by_result : (r : Result Begun Status) → begun_of table name files inputs ≡ r → (s result : Status)
+        → StopsAt (Rose failed_before failed_now) r s → IsUnbegun s → (result ≡ s) ⊎ (result ≡ status.Memory)
+        → Writes (fault_lines result) old new before now → IfOk r (λ begun. Held table begun result)
     by_result (Ok begun) e s result stopped kind is writes = by_end begun e s result stopped kind is writes
     by_result (Err reason) e s result stopped kind is writes = tt
 
-    pub unbegun_runs : (s result : Status) → Stops (Rose failed_before failed_now) (begun_of table name files inputs) s → IsUnbegun s → (result ≡ s) ⊎ (result ≡ status.Memory) → Writes (fault_lines result) old new before now → IfOk (begun_of table name files inputs) (λ begun. Held table begun result)
+    pub unbegun_runs : (s result : Status) → StopsAt (Rose failed_before failed_now) (begun_of table name files inputs) s
+        → IsUnbegun s → (result ≡ s) ⊎ (result ≡ status.Memory) → Writes (fault_lines result) old new before now
+        → IfOk (begun_of table name files inputs) (λ begun. Held table begun result)
     unbegun_runs s result stops kind is writes = by_result (begun_of table name files inputs) refl s result stops kind is writes
 
     memory_by : (r : Result Begun Status) → begun_of table name files inputs ≡ r → new ≡ old → IfOk r (λ begun. Held table begun status.Memory)
@@ -318,7 +339,8 @@ module _ {R : Type 0} (status_in : R → Status) (lines_in : R → List ℕ) (ta
   Says report = ForSome told (λ files. (rows : List (List Value)) → current_rows table (codes "main") files ≡ Ok rows → IsWhole table names files steps (status_in report) (lines_in report) ⊎ ((status_in report ≡ status.StoreFailed) × IsBroken names steps (status_in report) (lines_in report)))
 
   -- with the rows that are counted
-  pub wholly : (count : ℕ) (r : Result R Status) → IfOk r (λ report. status_in report ≡ status_of_steps steps) → IfOk r (λ report. lines_in report ≡ lines_of_steps own steps ++ lines_of_branch (codes "main") count)
+  pub wholly : (count : ℕ) (r : Result R Status) → IfOk r (λ report. status_in report ≡ status_of_steps steps)
+      → IfOk r (λ report. lines_in report ≡ lines_of_steps own steps ++ lines_of_branch (codes "main") count)
       → ForSome told (λ files. (rows : List (List Value)) → current_rows table (codes "main") files ≡ Ok rows → count ≡ length rows) → IfOk r Says
   wholly count (Ok report) by_steps lines counted = λ files is rows read. inl (record {
     rows = rows;
@@ -335,7 +357,9 @@ module _ {R : Type 0} (status_in : R → Status) (lines_in : R → List ℕ) (ta
   none_said report unread = λ files is rows read. absurd (unread files is rows read)
 
   -- without them
-  pub partly : (path : List ℕ) (f : LoadFault) (r : Result R Status) (wanted : Status) → wanted ≡ load_status path f → IfOk r (λ report. status_in report ≡ wanted) → IfOk r (λ report. IsBroken own steps wanted (lines_in report)) → f ≢ load.Memory → (f ≢ load.Store → f ≢ load.Memory → Unread) → IfOk r Says
+  pub partly : (path : List ℕ) (f : LoadFault) (r : Result R Status) (wanted : Status) → wanted ≡ load_status path f
+      → IfOk r (λ report. status_in report ≡ wanted) → IfOk r (λ report. IsBroken own steps wanted (lines_in report))
+      → f ≢ load.Memory → (f ≢ load.Store → f ≢ load.Memory → Unread) → IfOk r Says
   partly path load.Store (Ok report) wanted is same lines some unread = λ files at rows read.
       inr (same ∙ is, subst (λ (s : Status). IsBroken names steps s (lines_in report)) (sym same) (subst (λ (t : List (List ℕ)). IsBroken t steps wanted (lines_in report)) are lines))
   partly path load.Memory (Ok report) wanted is same lines some unread = absurd (some refl)

@@ -102,12 +102,12 @@ files_left files (refused reason) = files
 
 -- The files that a call leaves: those of its answer where it was carried out, those that were there where it was not, and
 -- one of the two where that is not known.
-abbrev pub Leaves : Answer → Status → Files → Option Files → Type 0
-Leaves answer status.Done files new = new ≡ Some (files_left files answer)
-Leaves answer status.OutputFailed files new = new ≡ Some (files_left files answer)
-Leaves answer (status.StateUnknown session number) files new = (new ≡ Some files) ⊎ (new ≡ Some (files_left files answer))
-Leaves answer status.Memory files new = (new ≡ Some files) ⊎ (new ≡ Some (files_left files answer))
-Leaves answer other files new = new ≡ Some files
+abbrev pub LeavesAnswered : Answer → Status → Files → Option Files → Type 0
+LeavesAnswered answer status.Done files new = new ≡ Some (files_left files answer)
+LeavesAnswered answer status.OutputFailed files new = new ≡ Some (files_left files answer)
+LeavesAnswered answer (status.StateUnknown session number) files new = (new ≡ Some files) ⊎ (new ≡ Some (files_left files answer))
+LeavesAnswered answer status.Memory files new = (new ≡ Some files) ⊎ (new ≡ Some (files_left files answer))
+LeavesAnswered answer other files new = new ≡ Some files
 
 -- the lines were written whole, or a front of them by a sink that failed
 abbrev pub Writes : List ℕ → Option (List ℕ) → Option (List ℕ) → ℕ → ℕ → Type 0

@@ -10,7 +10,8 @@ use Rattle.dml_parser.specs.declared.script.ScriptFault.TheVariants as fault
 use Rattle.dml_parser.specs.Script.{script_of}
 use Rattle.table_metadata.specs.Metadata.{Parts}
 use Rattle.table_names.specs.Versions.{version_name, version_of}
-use Rattle.table_state.specs.Files.{schema_with, version_at}
+use Rattle.table_state.specs.Files.{version_at}
+use Rattle.table_metadata.specs.ById.{schema_with}
 use Rattle.dml_program.specs.declared.begin.Begun.{Begun}
 use Rattle.dml_program.specs.declared.status.TableKind.TheVariants.{NoVersion, Later}
 use Rattle.dml_program.specs.declared.status.ScriptKind.TheVariants as script

@@ -17,7 +17,7 @@ use Rattle.dml_program.specs.declared.status.TableKind.TheVariants.{Exists, Late
 use Rattle.dml_program.specs.declared.status.ScriptKind.TheVariants as script
 use Rattle.dml_program.specs.declared.status.Status.{Status}
 use Rattle.dml_program.specs.declared.status.Status.TheVariants as status
-use Rattle.table_form.specs.Form.{is_plain_column, is_unpartitioned, is_plain_writing}
+use Rattle.table_state.specs.Form.{is_plain_column, is_unpartitioned, is_plain_writing}
 
 -- the bytes of the schema file, where it is not too long
 abbrev pub bytes_given : List ℕ → InputAnswer → Result (Option (List ℕ)) Status
@@ -66,14 +66,14 @@ first_version_of table name files inputs now = do
   Ok (first_text table now asked)
 
 -- the status of a call that stopped where this is wanted; an input fails where that is wanted, or where a read failed
-abbrev pub Stops : {A : Type 0} → Type 0 → Result A Status → Status → Type 0
-Stops failed wanted status.Done = ⊥
-Stops failed wanted status.Refused = ⊥
-Stops failed wanted status.Usage = ⊥
-Stops failed wanted (status.ScriptBad line reason) = wanted ≡ Err (status.ScriptBad line reason)
-Stops failed wanted (status.TableBad kind path) = wanted ≡ Err (status.TableBad kind path)
-Stops failed wanted status.StoreFailed = Unit {0}
-Stops failed wanted (status.InputFailed name) = failed ⊎ (wanted ≡ Err (status.InputFailed name))
-Stops failed wanted status.OutputFailed = ⊥
-Stops failed wanted (status.StateUnknown session number) = Unit {0}
-Stops failed wanted status.Memory = Unit {0}
+abbrev pub StopsAt : {A : Type 0} → Type 0 → Result A Status → Status → Type 0
+StopsAt failed wanted status.Done = ⊥
+StopsAt failed wanted status.Refused = ⊥
+StopsAt failed wanted status.Usage = ⊥
+StopsAt failed wanted (status.ScriptBad line reason) = wanted ≡ Err (status.ScriptBad line reason)
+StopsAt failed wanted (status.TableBad kind path) = wanted ≡ Err (status.TableBad kind path)
+StopsAt failed wanted status.StoreFailed = Unit {0}
+StopsAt failed wanted (status.InputFailed name) = failed ⊎ (wanted ≡ Err (status.InputFailed name))
+StopsAt failed wanted status.OutputFailed = ⊥
+StopsAt failed wanted (status.StateUnknown session number) = Unit {0}
+StopsAt failed wanted status.Memory = Unit {0}

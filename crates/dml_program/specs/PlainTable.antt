@@ -12,9 +12,10 @@ use Rattle.manifest_files.specs.declared.manifest_row.ManifestRow.{ManifestRow}
 use Rattle.table_metadata.specs.Metadata.{Parts, metadata_of}
 use Rattle.table_metadata.specs.declared.snapshots.Snapshot.{Snapshot}
 use Rattle.table_state.specs.Files.{list_at, manifest_at, data_file_at}
-use Rattle.table_state.specs.Live.{head_of, snapshot_with, is_live, is_data}
+use Rattle.table_state.specs.Live.{head_of, is_live, is_data}
+use Rattle.table_metadata.specs.ById.{snapshot_with}
 use Rattle.table_names.specs.Versions.{version_name}
-use Rattle.table_form.specs.Form.{has_form, is_data_manifest}
+use Rattle.table_state.specs.Form.{has_form, is_data_manifest}
 
 -- a value, or the path instead of why there is none
 abbrev pub or_path : {A E : Type 0} → List ℕ → Result A E → Result A (List ℕ)

@@ -6,18 +6,18 @@ use Rattle.std.specs.Option.{ForSome}
 use Rattle.plain_types.specs.Causes.{Rose}
 use Rattle.row_values.specs.declared.value.Value.{Value}
 use Rattle.store_core.specs.Files.{Files}
-use Rattle.file_names.specs.declared.names.Names.{Names}
-use Rattle.report_lines.specs.declared.event.Stepped.{Stepped}
+use Rattle.table_names.specs.declared.names.Names.{Names}
+use Rattle.session_machine.specs.declared.event.Stepped.{Stepped}
 use Rattle.run_report.specs.Report.{is_refused, lines_of_branch, lines_of_steps, name_of}
 use Rattle.command_line.specs.Words.{Wanted, rows, create, run}
 use Rattle.dml_parser.specs.declared.script.Script.{Script}
-use Rattle.branch_rows.specs.Rows.{current_rows}
-use Rattle.session_work.specs.Open.{IsOpen}
+use Rattle.schedule_runner.specs.Rows.{current_rows}
+use Rattle.session_steps.specs.Open.{IsOpen}
 use Rattle.session_steps.specs.declared.fault.RunFault.{RunFault}
 use Rattle.session_steps.specs.declared.fault.RunFault.TheVariants as fault
 use Rattle.session_steps.specs.Steps.{LeavesOthers}
-use Rattle.session_loop.specs.Outcome.{IsOutcome, first_place}
-use Rattle.session_loop.specs.Scripts.{statements_in}
+use Rattle.schedule_runner.specs.Outcome.{IsOutcome, first_place}
+use Rattle.schedule_runner.specs.Scripts.{statements_in}
 use Rattle.dml_program.specs.declared.begin.Begun.{Begun}
 use Rattle.dml_program.specs.declared.status.TableKind.TheVariants.{Later, Limit}
 use Rattle.dml_program.specs.declared.status.Status.{Status}
@@ -65,10 +65,10 @@ module _ (table : List ℕ) (names : List (List ℕ)) (files : Files) (steps : L
   IsReport (Some fault) wanted lines = (wanted ≡ status_of_fault table names fault) × IsBroken names steps wanted lines
 
 -- a status of a run that went to its end
-abbrev pub IsCarriedOut : Status → Type 0
-IsCarriedOut status.Done = Unit {0}
-IsCarriedOut status.Refused = Unit {0}
-IsCarriedOut other = ⊥
+abbrev pub HasEnded : Status → Type 0
+HasEnded status.Done = Unit {0}
+HasEnded status.Refused = Unit {0}
+HasEnded other = ⊥
 
 -- a status of a run that began
 abbrev pub IsRunEnd : Status → Type 0
@@ -79,7 +79,7 @@ IsRunEnd other = Unit {0}
 
 -- The status of a call that wrote a report: the output may have failed.
 abbrev pub IsWritten : Status → Status → ℕ → ℕ → Type 0
-IsWritten wanted result before now = (result ≡ wanted) ⊎ ((result ≡ status.OutputFailed) × IsCarriedOut wanted × Rose before now)
+IsWritten wanted result before now = (result ≡ wanted) ⊎ ((result ≡ status.OutputFailed) × HasEnded wanted × Rose before now)
 
 -- ---- the run
 

@@ -3,12 +3,12 @@ ghost use Rattle.std.specs.Prelude.{◌≡◌, ◌⊎◌, None, Ok, Some, IfOk, 
 ghost use Rattle.std.specs.Option.{ForSome};
 ghost use Rattle.plain_types.specs.Causes.{Rose};
 ghost use Rattle.table_names.specs.Versions.{version_name};
-ghost use Rattle.table_state.specs.Files.{schema_with};
-ghost use Rattle.session_work.specs.Open.{IsOpen};
-ghost use Rattle.session_loop.specs.Scripts.{WasRead};
+ghost use Rattle.table_metadata.specs.ById.{schema_with};
+ghost use Rattle.session_steps.specs.Open.{IsOpen};
+ghost use Rattle.schedule_runner.specs.Scripts.{WasRead};
 ghost use Rattle.dml_program.specs.Beginning.{bad_script, begun_of, script_by};
 ghost use Rattle.dml_program.specs.Causes.{HasInputCause, HasStoreCause, IsFormStop, IsUnbegun};
-ghost use Rattle.dml_program.specs.Creating.{Stops};
+ghost use Rattle.dml_program.specs.Creating.{StopsAt};
 
 use crate::create::read_file;
 use crate::open::{Opened, open_table};
@@ -18,9 +18,8 @@ use plain_types::{List, Text};
 use row_values::{Column, TableSchema};
 use std::alloc::{AllocError, Global};
 use store_core::{Blob, Inputs, Store};
-use table_metadata::Metadata;
+use table_metadata::{Metadata, schema_with};
 use table_names::version_name;
-use table_state::schema_with;
 
 /// What a run begins with.
 #[derive(Drop)]
@@ -42,8 +41,11 @@ pub(crate) fn begin<S: Store, I: Inputs>(
     table: &str,
     script: &str,
 ) -> Result<Begun, Status>
-    ensures found { IfOk result (λ begun. ForSome (S.files store.old) (λ files. ForSome (I.contents inputs.old) (λ given. begun_of table.now script.now files given ≡ Ok begun))) }
-    ensures refused { IfErr result (λ status. ForSome (S.files store.old) (λ files. ForSome (I.contents inputs.old) (λ given. Stops (Rose (I.faults inputs.old) (I.faults inputs.new)) (begun_of table.now script.now files given) status))) }
+    ensures found { IfOk result (λ begun. ForSome (S.files store.old)
+        (λ files. ForSome (I.contents inputs.old) (λ given. begun_of table.now script.now files given ≡ Ok begun))) }
+    ensures refused { IfErr result (λ status. ForSome (S.files store.old)
+        (λ files. ForSome (I.contents inputs.old)
+        (λ given. StopsAt (Rose (I.faults inputs.old) (I.faults inputs.new)) (begun_of table.now script.now files given) status))) }
     ensures open { IfOk result (λ begun. ForSome (S.files store.old) (λ files. IsOpen table.now begun.schema files begun.version)) }
     ensures read { IfOk result (λ begun. WasRead begun.schema begun.script) }
     ensures files { S.files store.new ≡ S.files store.old }
@@ -82,7 +84,8 @@ fn no_schema(alloc: Global, table: &str, version: u32) -> Status
 // The current schema of a table's version.
 fn schema_of(alloc: Global, table: &str, opened: &Opened) -> Result<TableSchema, Status>
     ensures found { IfOk result (λ schema. schema_with opened.now.metadata.current_schema opened.now.metadata.schemas ≡ Some schema) }
-    ensures refused { IfErr result (λ status. (status ≡ Status.Memory) ⊎ ((status ≡ Status.TableBad TableKind.Later (version_name table.now opened.now.version)) × (schema_with opened.now.metadata.current_schema opened.now.metadata.schemas ≡ None))) }
+    ensures refused { IfErr result (λ status. (status ≡ Status.Memory) ⊎ ((status ≡ Status.TableBad TableKind.Later (version_name table.now opened.now.version))
+        × (schema_with opened.now.metadata.current_schema opened.now.metadata.schemas ≡ None))) }
 {
     match current_schema(&opened.metadata) {
         Some(schema) => Ok(copy_schema(alloc, schema)?),
@@ -124,7 +127,7 @@ fn copy_column(alloc: Global, column: &Column) -> Result<Column, AllocError>
 fn script_by(alloc: Global, schema: &TableSchema, bytes: Option<Blob>) -> Result<Script, Status>
     ensures found { IfOk result (λ script. script_by schema.now bytes ≡ Ok script) }
     ensures read { IfOk result (WasRead schema.now) }
-    ensures refused { IfErr result (Stops ⊥ (script_by schema.now bytes)) }
+    ensures refused { IfErr result (StopsAt ⊥ (script_by schema.now bytes)) }
     ensures kind { IfErr result IsFormStop }
 {
     let Some(bytes) = bytes else {

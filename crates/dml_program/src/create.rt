@@ -5,10 +5,10 @@ ghost use Rattle.plain_types.specs.Causes.{Rose};
 ghost use Rattle.store_core.specs.Files.{Files, KeepsFiles};
 ghost use Rattle.table_definition.specs.Definition.{asked, definition_of};
 ghost use Rattle.table_names.specs.Versions.{version_of};
-ghost use Rattle.dml_program.specs.Answers.{AllTold, Carries, Leaves, Prints, create_answer, so_far};
+ghost use Rattle.dml_program.specs.Answers.{AllTold, Carries, LeavesAnswered, Prints, create_answer, so_far};
 ghost use Rattle.dml_program.specs.Causes.{HasInputCause, HasStoreCause, IsFormStop, IsSettled, IsStop, IsUnbegun};
 ghost use Rattle.dml_program.specs.Opening.{IsRefusal};
-ghost use Rattle.dml_program.specs.Creating.{Stops, asked_by, bad_file, file_given, first_version_of, has_no_version, if_plain, is_not_compressed, is_plain, may_be_made};
+ghost use Rattle.dml_program.specs.Creating.{StopsAt, asked_by, bad_file, file_given, first_version_of, has_no_version, if_plain, is_not_compressed, is_plain, may_be_made};
 
 use crate::report;
 use crate::status::{ScriptKind, Status, TableKind};
@@ -17,8 +17,8 @@ use plain_types::Text;
 use std::alloc::Global;
 use store_core::{Blob, Clock, InputAnswer, Inputs, IoFault, Store};
 use table_definition::{Definition, DefinitionFault, first_text, read_definition};
-use table_form::{are_plain_columns, is_plain_writing};
 use table_names::{compressed_version, current_version, version_name};
+use table_state::{are_plain_columns, is_plain_writing};
 
 /// The most bytes of a script or a schema file.
 const MOST_BYTES: u64 = 1 << 20;
@@ -32,9 +32,14 @@ pub(crate) fn create<S: Store, I: Inputs, C: Clock>(
     table: &str,
     schema: &str,
 ) -> Result<Vec<u8>, Status>
-    ensures found { IfOk result (λ lines. AllTold (S.files store.old) (I.contents inputs.old) (C.time clock.old) (λ files given now. Prints (create_answer table.now files (first_version_of table.now schema.now files given now)) lines.items)) }
-    ensures refused { IfErr result (λ status. AllTold (S.files store.old) (I.contents inputs.old) (C.time clock.old) (λ files given now. Carries (Rose (I.faults inputs.old) (I.faults inputs.new)) (create_answer table.now files (first_version_of table.now schema.now files given now)) status)) }
-    ensures leaves { AllTold (S.files store.old) (I.contents inputs.old) (C.time clock.old) (λ files given now. Leaves (create_answer table.now files (first_version_of table.now schema.now files given now)) (so_far result) files (S.files store.new)) }
+    ensures found { IfOk result (λ lines. AllTold (S.files store.old) (I.contents inputs.old) (C.time clock.old)
+        (λ files given now. Prints (create_answer table.now files (first_version_of table.now schema.now files given now)) lines.items)) }
+    ensures refused { IfErr result (λ status. AllTold (S.files store.old) (I.contents inputs.old) (C.time clock.old)
+        (λ files given now. Carries (Rose (I.faults inputs.old) (I.faults inputs.new))
+        (create_answer table.now files (first_version_of table.now schema.now files given now)) status)) }
+    ensures leaves { AllTold (S.files store.old) (I.contents inputs.old) (C.time clock.old)
+        (λ files given now. LeavesAnswered (create_answer table.now files (first_version_of table.now schema.now files given now))
+        (so_far result) files (S.files store.new)) }
     ensures kept { KeepsFiles (S.files store.old) (S.files store.new) }
     ensures kind { IfErr result IsStop }
     ensures store { IfErr result (λ status. HasStoreCause status (S.faults store.old) (S.faults store.new) (S.unsettled store.new)) }
@@ -62,8 +67,11 @@ fn first_version<S: Store, I: Inputs, C: Clock>(
     table: &str,
     schema: &str,
 ) -> Result<Blob, Status>
-    ensures found { IfOk result (λ text. AllTold (S.files store.old) (I.contents inputs.old) (C.time clock.old) (λ files given now. first_version_of table.now schema.now files given now ≡ Ok text)) }
-    ensures refused { IfErr result (λ status. AllTold (S.files store.old) (I.contents inputs.old) (C.time clock.old) (λ files given now. Stops (Rose (I.faults inputs.old) (I.faults inputs.new)) (first_version_of table.now schema.now files given now) status)) }
+    ensures found { IfOk result (λ text. AllTold (S.files store.old) (I.contents inputs.old) (C.time clock.old)
+        (λ files given now. first_version_of table.now schema.now files given now ≡ Ok text)) }
+    ensures refused { IfErr result (λ status. AllTold (S.files store.old) (I.contents inputs.old) (C.time clock.old)
+        (λ files given now. StopsAt (Rose (I.faults inputs.old) (I.faults inputs.new))
+        (first_version_of table.now schema.now files given now) status)) }
     ensures fresh { OnOk result (ForSome (S.files store.old) (λ files. version_of table.now files ≡ None)) }
     ensures files { S.files store.new ≡ S.files store.old }
     ensures kind { IfErr result IsStop }
@@ -85,7 +93,8 @@ pub(crate) fn read_file<I: Inputs>(
     name: &str,
 ) -> Result<Option<Blob>, Status>
     ensures found { IfOk result (λ bytes. ForSome (I.contents inputs.old) (λ given. file_given name.now given ≡ Ok bytes)) }
-    ensures refused { IfErr result (λ status. ForSome (I.contents inputs.old) (λ given. Stops (Rose (I.faults inputs.old) (I.faults inputs.new)) (file_given name.now given) status)) }
+    ensures refused { IfErr result (λ status. ForSome (I.contents inputs.old)
+        (λ given. StopsAt (Rose (I.faults inputs.old) (I.faults inputs.new)) (file_given name.now given) status)) }
     ensures contents { I.contents inputs.new ≡ I.contents inputs.old }
     ensures kind { IfErr result IsStop }
     ensures before { IfErr result IsUnbegun }
@@ -107,7 +116,7 @@ pub(crate) fn read_file<I: Inputs>(
 #[tactic(auto, unfolding(crate::specs::Creating::may_be_made))]
 fn check_place<S: Store>(alloc: Global, store: &mut S, table: &str) -> Result<(), Status>
     ensures found { OnOk result (ForSome (S.files store.old) (λ files. may_be_made table.now files ≡ Ok tt)) }
-    ensures refused { IfErr result (λ status. ForSome (S.files store.old) (λ files. Stops ⊥ (may_be_made table.now files) status)) }
+    ensures refused { IfErr result (λ status. ForSome (S.files store.old) (λ files. StopsAt ⊥ (may_be_made table.now files) status)) }
     ensures fresh { OnOk result (ForSome (S.files store.old) (λ files. version_of table.now files ≡ None)) }
     ensures files { S.files store.new ≡ S.files store.old }
     ensures kind { IfErr result IsRefusal }
@@ -120,7 +129,7 @@ fn check_place<S: Store>(alloc: Global, store: &mut S, table: &str) -> Result<()
 
 fn check_no_version<S: Store>(alloc: Global, store: &mut S, table: &str) -> Result<(), Status>
     ensures found { OnOk result (ForSome (S.files store.old) (λ files. has_no_version table.now files ≡ Ok tt)) }
-    ensures refused { IfErr result (λ status. ForSome (S.files store.old) (λ files. Stops ⊥ (has_no_version table.now files) status)) }
+    ensures refused { IfErr result (λ status. ForSome (S.files store.old) (λ files. StopsAt ⊥ (has_no_version table.now files) status)) }
     ensures fresh { OnOk result (ForSome (S.files store.old) (λ files. version_of table.now files ≡ None)) }
     ensures files { S.files store.new ≡ S.files store.old }
     ensures kind { IfErr result IsRefusal }
@@ -139,7 +148,7 @@ fn check_no_version<S: Store>(alloc: Global, store: &mut S, table: &str) -> Resu
 
 fn check_not_compressed<S: Store>(alloc: Global, store: &mut S, table: &str) -> Result<(), Status>
     ensures found { OnOk result (ForSome (S.files store.old) (λ files. is_not_compressed table.now files ≡ Ok tt)) }
-    ensures refused { IfErr result (λ status. ForSome (S.files store.old) (λ files. Stops ⊥ (is_not_compressed table.now files) status)) }
+    ensures refused { IfErr result (λ status. ForSome (S.files store.old) (λ files. StopsAt ⊥ (is_not_compressed table.now files) status)) }
     ensures files { S.files store.new ≡ S.files store.old }
     ensures kind { IfErr result IsRefusal }
     ensures store { IfErr result (λ status. HasStoreCause status (S.faults store.old) (S.faults store.new) (S.unsettled store.new)) }
@@ -160,7 +169,7 @@ fn check_not_compressed<S: Store>(alloc: Global, store: &mut S, table: &str) -> 
 fn read_asked(alloc: Global, bytes: Option<Blob>) -> Result<Definition, Status>
     ensures found { IfOk result (λ d. asked_by bytes ≡ Ok (asked d)) }
     ensures text { IfOk result (λ d. (text : List ℕ) × (definition_of text ≡ Ok (asked d))) }
-    ensures refused { IfErr result (Stops ⊥ (asked_by bytes)) }
+    ensures refused { IfErr result (StopsAt ⊥ (asked_by bytes)) }
     ensures kind { IfErr result IsFormStop }
 {
     let Some(bytes) = bytes else {
@@ -210,7 +219,7 @@ fn make_version<S: Store>(
 ) -> Result<(), Status>
     requires { ForSome (S.files store.old) (λ files. version_of table.now files ≡ None) }
     ensures refused { IfErr result (λ status. ForSome (S.files store.old) (λ files. Carries ⊥ (create_answer table.now files (Ok text.now)) status)) }
-    ensures leaves { ForSome (S.files store.old) (λ files. Leaves (create_answer table.now files (Ok text.now)) (so_far result) files (S.files store.new)) }
+    ensures leaves { ForSome (S.files store.old) (λ files. LeavesAnswered (create_answer table.now files (Ok text.now)) (so_far result) files (S.files store.new)) }
     ensures kept { KeepsFiles (S.files store.old) (S.files store.new) }
     ensures kind { IfErr result IsStop }
     ensures store { IfErr result (λ status. HasStoreCause status (S.faults store.old) (S.faults store.new) (S.unsettled store.new)) }

@@ -8,5 +8,6 @@ ghost use Rattle.dml_program.specs.Opening.{table_rows};
 
 /// The rows that are printed of a table are those of its branch `main` at its current version.
 pub fn printed_rows_are_those_of_main()
-    ensures { (table : Seq ℕ) (files : Files) (rows : Seq (Seq Content)) → table_rows table files ≡ Ok rows → (version : ℕ) × (version_of table files ≡ Some version) × (rows_of_branch table version (codes "main") files ≡ Ok rows) }
+    ensures { (table : Seq ℕ) (files : Files) (rows : Seq (Seq Content)) → table_rows table files ≡ Ok rows → (version : ℕ)
+        × (version_of table files ≡ Some version) × (rows_of_branch table version (codes "main") files ≡ Ok rows) }
 {}

@@ -9,10 +9,21 @@ ghost use Rattle.std.specs.FinMap as map;
 ghost use Rattle.table_metadata.specs.Metadata.{parts};
 ghost use Rattle.table_state.specs.Files.{version_at};
 ghost use Rattle.table_state.specs.Live.{is_data, is_live};
-ghost use Rattle.table_form.specs.Form.{is_data_manifest};
+ghost use Rattle.table_state.specs.Form.{is_data_manifest};
 ghost use Rattle.dml_program.specs.Beginning.{opened_at};
 ghost use Rattle.dml_program.specs.Opening.{IsRefusal, Refuses, RefusesTable, load_status, table_rows};
-ghost use Rattle.dml_program.specs.PlainTable.{if_form, plain_entries, plain_file, plain_list, plain_main, plain_manifest, plain_metadata, plain_rows, plain_snapshot, plain_version};
+ghost use Rattle.dml_program.specs.PlainTable.{
+  if_form,
+  plain_entries,
+  plain_file,
+  plain_list,
+  plain_main,
+  plain_manifest,
+  plain_metadata,
+  plain_rows,
+  plain_snapshot,
+  plain_version,
+};
 
 use crate::status::{Status, TableKind};
 use manifest_files::{Entry, ManifestRow};
@@ -20,11 +31,11 @@ use plain_types::{List, Text};
 use row_values::Row;
 use std::alloc::Global;
 use store_core::{Blob, ReadAnswer, Store};
-use table_form::{are_data_entries, are_data_manifests, has_form};
-use table_metadata::{Metadata, MetadataFault, Snapshot, read_metadata};
+use table_metadata::{Metadata, MetadataFault, Snapshot, read_metadata, snapshot_with};
 use table_names::{current_version, version_name};
 use table_state::{
-    LoadFault, head_of, read_data_file_at, read_list_at, read_manifest_at, snapshot_with,
+    LoadFault, are_data_entries, are_data_manifests, has_form, head_of, read_data_file_at,
+    read_list_at, read_manifest_at,
 };
 
 // The status of a call that could not read the file with this path.
@@ -57,7 +68,8 @@ fn plain_list<S: Store>(
     path: &str,
 ) -> Result<List<ManifestRow>, Status>
     ensures found { IfOk result (λ rows. ForSome (S.files store.old) (λ files. plain_list table.now (parts metadata.now) path.now files ≡ Ok rows)) }
-    ensures refused { IfErr result (λ status. ForSome (S.files store.old) (λ files. Refuses (plain_list table.now (parts metadata.now) path.now files) status)) }
+    ensures refused { IfErr result (λ status. ForSome (S.files store.old)
+        (λ files. Refuses (plain_list table.now (parts metadata.now) path.now files) status)) }
     ensures kind { IfErr result IsRefusal }
     ensures store_failed { IsErrOf result Status.StoreFailed → Rose (S.faults store.old) (S.faults store.new) × (0 < S.unsettled store.new) }
     ensures quiet { OnOk result (S.faults store.new ≡ S.faults store.old) }
@@ -72,7 +84,8 @@ fn plain_list<S: Store>(
 
 fn data_manifests(path: Text, rows: List<ManifestRow>) -> Result<List<ManifestRow>, Status>
     ensures found { IfOk result (λ found. if_form path rows (list_all is_data_manifest rows) ≡ Ok found) }
-    ensures refused { IfErr result (λ status. (status ≡ Status.TableBad TableKind.Later path) × (if_form path rows (list_all is_data_manifest rows) ≡ Err path)) }
+    ensures refused { IfErr result (λ status. (status ≡ Status.TableBad TableKind.Later path)
+        × (if_form path rows (list_all is_data_manifest rows) ≡ Err path)) }
 {
     if are_data_manifests(rows.as_slice()) {
         Ok(rows)
@@ -90,8 +103,10 @@ fn plain_manifest<S: Store>(
     metadata: &Metadata,
     row: &ManifestRow,
 ) -> Result<Vec<Entry>, Status>
-    ensures found { IfOk result (λ entries. ForSome (S.files store.old) (λ files. plain_manifest table.now (parts metadata.now) row.now files ≡ Ok entries.items)) }
-    ensures refused { IfErr result (λ status. ForSome (S.files store.old) (λ files. Refuses (plain_manifest table.now (parts metadata.now) row.now files) status)) }
+    ensures found { IfOk result (λ entries. ForSome (S.files store.old)
+        (λ files. plain_manifest table.now (parts metadata.now) row.now files ≡ Ok entries.items)) }
+    ensures refused { IfErr result (λ status. ForSome (S.files store.old)
+        (λ files. Refuses (plain_manifest table.now (parts metadata.now) row.now files) status)) }
     ensures kind { IfErr result IsRefusal }
     ensures store_failed { IsErrOf result Status.StoreFailed → Rose (S.faults store.old) (S.faults store.new) × (0 < S.unsettled store.new) }
     ensures quiet { OnOk result (S.faults store.new ≡ S.faults store.old) }
@@ -106,7 +121,8 @@ fn plain_manifest<S: Store>(
 
 fn data_entries(path: Text, entries: List<Entry>) -> Result<Vec<Entry>, Status>
     ensures found { IfOk result (λ live. if_form path (filter is_live entries) (list_all is_data entries) ≡ Ok live.items) }
-    ensures refused { IfErr result (λ status. (status ≡ Status.TableBad TableKind.Later path) × (if_form path (filter is_live entries) (list_all is_data entries) ≡ Err path)) }
+    ensures refused { IfErr result (λ status. (status ≡ Status.TableBad TableKind.Later path)
+        × (if_form path (filter is_live entries) (list_all is_data entries) ≡ Err path)) }
 {
     if are_data_entries(entries.as_slice()) {
         Ok(live_entries(entries))
@@ -132,8 +148,10 @@ fn plain_entries<S: Store>(
     metadata: &Metadata,
     rows: &[ManifestRow],
 ) -> Result<Vec<Entry>, Status>
-    ensures found { IfOk result (λ entries. ForSome (S.files store.old) (λ files. plain_entries table.now (parts metadata.now) [] rows.now files ≡ Ok entries.items)) }
-    ensures refused { IfErr result (λ status. ForSome (S.files store.old) (λ files. Refuses (plain_entries table.now (parts metadata.now) [] rows.now files) status)) }
+    ensures found { IfOk result (λ entries. ForSome (S.files store.old)
+        (λ files. plain_entries table.now (parts metadata.now) [] rows.now files ≡ Ok entries.items)) }
+    ensures refused { IfErr result (λ status. ForSome (S.files store.old)
+        (λ files. Refuses (plain_entries table.now (parts metadata.now) [] rows.now files) status)) }
     ensures kind { IfErr result IsRefusal }
     ensures store_failed { IsErrOf result Status.StoreFailed → Rose (S.faults store.old) (S.faults store.new) × (0 < S.unsettled store.new) }
     ensures quiet { OnOk result (S.faults store.new ≡ S.faults store.old) }
@@ -158,7 +176,8 @@ fn plain_file<S: Store>(
     path: &str,
 ) -> Result<Vec<Row>, Status>
     ensures found { IfOk result (λ rows. ForSome (S.files store.old) (λ files. plain_file table.now (parts metadata.now) path.now files ≡ Ok rows.items)) }
-    ensures refused { IfErr result (λ status. ForSome (S.files store.old) (λ files. Refuses (plain_file table.now (parts metadata.now) path.now files) status)) }
+    ensures refused { IfErr result (λ status. ForSome (S.files store.old)
+        (λ files. Refuses (plain_file table.now (parts metadata.now) path.now files) status)) }
     ensures kind { IfErr result IsRefusal }
     ensures store_failed { IsErrOf result Status.StoreFailed → Rose (S.faults store.old) (S.faults store.new) × (0 < S.unsettled store.new) }
     ensures quiet { OnOk result (S.faults store.new ≡ S.faults store.old) }
@@ -180,8 +199,10 @@ fn plain_rows<S: Store>(
     metadata: &Metadata,
     entries: &[Entry],
 ) -> Result<Vec<Row>, Status>
-    ensures found { IfOk result (λ rows. ForSome (S.files store.old) (λ files. plain_rows table.now (parts metadata.now) [] entries.now files ≡ Ok rows.items)) }
-    ensures refused { IfErr result (λ status. ForSome (S.files store.old) (λ files. Refuses (plain_rows table.now (parts metadata.now) [] entries.now files) status)) }
+    ensures found { IfOk result (λ rows. ForSome (S.files store.old)
+        (λ files. plain_rows table.now (parts metadata.now) [] entries.now files ≡ Ok rows.items)) }
+    ensures refused { IfErr result (λ status. ForSome (S.files store.old)
+        (λ files. Refuses (plain_rows table.now (parts metadata.now) [] entries.now files) status)) }
     ensures kind { IfErr result IsRefusal }
     ensures store_failed { IsErrOf result Status.StoreFailed → Rose (S.faults store.old) (S.faults store.new) × (0 < S.unsettled store.new) }
     ensures quiet { OnOk result (S.faults store.new ≡ S.faults store.old) }
@@ -206,8 +227,10 @@ fn plain_snapshot<S: Store>(
     metadata: &Metadata,
     snapshot: &Snapshot,
 ) -> Result<Vec<Row>, Status>
-    ensures found { IfOk result (λ rows. ForSome (S.files store.old) (λ files. plain_snapshot table.now (parts metadata.now) snapshot.now files ≡ Ok rows.items)) }
-    ensures refused { IfErr result (λ status. ForSome (S.files store.old) (λ files. Refuses (plain_snapshot table.now (parts metadata.now) snapshot.now files) status)) }
+    ensures found { IfOk result (λ rows. ForSome (S.files store.old)
+        (λ files. plain_snapshot table.now (parts metadata.now) snapshot.now files ≡ Ok rows.items)) }
+    ensures refused { IfErr result (λ status. ForSome (S.files store.old)
+        (λ files. Refuses (plain_snapshot table.now (parts metadata.now) snapshot.now files) status)) }
     ensures kind { IfErr result IsRefusal }
     ensures store_failed { IsErrOf result Status.StoreFailed → Rose (S.faults store.old) (S.faults store.new) × (0 < S.unsettled store.new) }
     ensures quiet { OnOk result (S.faults store.new ≡ S.faults store.old) }
@@ -228,7 +251,8 @@ fn plain_main<S: Store>(
     name: &str,
 ) -> Result<Vec<Row>, Status>
     ensures found { IfOk result (λ rows. ForSome (S.files store.old) (λ files. plain_main name.now table.now (parts metadata.now) files ≡ Ok rows.items)) }
-    ensures refused { IfErr result (λ status. ForSome (S.files store.old) (λ files. Refuses (plain_main name.now table.now (parts metadata.now) files) status)) }
+    ensures refused { IfErr result (λ status. ForSome (S.files store.old)
+        (λ files. Refuses (plain_main name.now table.now (parts metadata.now) files) status)) }
     ensures kind { IfErr result IsRefusal }
     ensures store_failed { IsErrOf result Status.StoreFailed → Rose (S.faults store.old) (S.faults store.new) × (0 < S.unsettled store.new) }
     ensures quiet { OnOk result (S.faults store.new ≡ S.faults store.old) }

@@ -4,7 +4,7 @@ ghost use Rattle.std.specs.Option.{ForSome};
 ghost use Rattle.plain_types.specs.Causes.{Rose};
 ghost use Rattle.store_core.specs.Files.{Files, KeepsFiles};
 ghost use Rattle.command_line.specs.Words.{command_of, run, texts, wanted};
-ghost use Rattle.dml_program.specs.Answers.{Carries, IsFault, Leaves, OnlyReads, Prints, RunsNothing, Told, ToldOf, Writes, report_lines, rows_answer, so_far, status_of};
+ghost use Rattle.dml_program.specs.Answers.{Carries, IsFault, LeavesAnswered, OnlyReads, Prints, RunsNothing, Told, ToldOf, Writes, report_lines, rows_answer, so_far, status_of};
 ghost use Rattle.dml_program.specs.Causes.{HasInputCause, HasStoreCause, IsSettled, IsSettledBy};
 ghost use Rattle.dml_program.specs.Opening.{IsRefusal, table_rows};
 ghost use Rattle.dml_program.specs.ScriptRuns.{IsUnread, IsRan, OfRun};
@@ -35,23 +35,30 @@ pub fn run_program<S: Store, I: Inputs, K: Sink, C: Clock>(
     // The answer is the one that the words, the files, the inputs and the time want, or names what failed.
     ensures usage { result ≡ Status.Usage → command_of (texts words.now) ≡ None }
     ensures refused { command_of (texts words.now) ≡ None → (result ≡ Status.Usage) ⊎ (result ≡ Status.Memory) }
-    ensures answer { Told (texts words.now) (S.files store.old) (I.contents inputs.old) (C.time clock.old) (λ files answer. Carries (Rose (I.faults inputs.old) (I.faults inputs.new)) answer result) }
+    ensures answer { Told (texts words.now) (S.files store.old) (I.contents inputs.old) (C.time clock.old)
+        (λ files answer. Carries (Rose (I.faults inputs.old) (I.faults inputs.new)) answer result) }
 
     // A failure has its cause, and where nothing failed the wanted answer comes, or want of memory.
     ensures store { HasStoreCause result (S.faults store.old) (S.faults store.new) (S.unsettled store.new) }
     ensures input { HasInputCause result (I.contents inputs.old) (I.faults inputs.old) (I.faults inputs.new) }
     ensures output_failed { result ≡ Status.OutputFailed → Rose (K.faults out.old) (K.faults out.new) }
     ensures complete { ¬ Rose (S.faults store.old) (S.faults store.new) → ¬ Rose (I.faults inputs.old) (I.faults inputs.new) → ¬ Rose (K.faults out.old) (K.faults out.new)
-        → Told (texts words.now) (S.files store.old) (I.contents inputs.old) (C.time clock.old) (λ files answer. (result ≡ Status.Memory) ⊎ (result ≡ status_of answer)) }
-    ensures quiet { result ≡ Status.Done → IsSettledBy (command_of (texts words.now)) (S.faults store.old) (S.faults store.new) (S.unsettled store.new) × (I.faults inputs.new ≡ I.faults inputs.old) × (K.faults out.new ≡ K.faults out.old) }
+        → Told (texts words.now) (S.files store.old) (I.contents inputs.old) (C.time clock.old)
+        (λ files answer. (result ≡ Status.Memory) ⊎ (result ≡ status_of answer)) }
+    ensures quiet { result ≡ Status.Done → IsSettledBy (command_of (texts words.now)) (S.faults store.old) (S.faults store.new)
+        (S.unsettled store.new) × (I.faults inputs.new ≡ I.faults inputs.old) × (K.faults out.new ≡ K.faults out.old) }
 
     // The files are those of the answer, and each that was there is as it was. The report is whole, or a front of it by a
     // sink that failed.
-    ensures leaves { Told (texts words.now) (S.files store.old) (I.contents inputs.old) (C.time clock.old) (λ files answer. Leaves answer result files (S.files store.new)) }
+    ensures leaves { Told (texts words.now) (S.files store.old) (I.contents inputs.old) (C.time clock.old)
+        (λ files answer. LeavesAnswered answer result files (S.files store.new)) }
     ensures only_reads { OnlyReads (command_of (texts words.now)) → S.files store.new ≡ S.files store.old }
     ensures kept { KeepsFiles (S.files store.old) (S.files store.new) }
-    ensures report { Told (texts words.now) (S.files store.old) (I.contents inputs.old) (C.time clock.old) (λ files answer. Writes (report_lines answer result) (K.written out.old) (K.written out.new) (K.faults out.old) (K.faults out.new)) }
-    ensures fault_lines { IsFault result → (steps : Seq ℕ) × (RunsNothing (command_of (texts words.now)) → steps ≡ []) × Writes (steps ++ fault_lines result) (K.written out.old) (K.written out.new) (K.faults out.old) (K.faults out.new) }
+    ensures report { Told (texts words.now) (S.files store.old) (I.contents inputs.old) (C.time clock.old)
+        (λ files answer. Writes (report_lines answer result) (K.written out.old) (K.written out.new) (K.faults out.old)
+        (K.faults out.new)) }
+    ensures fault_lines { IsFault result → (steps : Seq ℕ) × (RunsNothing (command_of (texts words.now)) → steps ≡ [])
+        × Writes (steps ++ fault_lines result) (K.written out.old) (K.written out.new) (K.faults out.old) (K.faults out.new) }
 
     // A run that began leaves what plain SQL gives of the statements that it carried out, and tells of its steps.
     ensures runs { OfRun (command_of (texts words.now)) (S.files store.old) (I.contents inputs.old) (λ table begun files. IsUnread result (I.faults inputs.old) (I.faults inputs.new) files (S.files store.new)
@@ -76,18 +83,25 @@ fn run<S: Store, I: Inputs, K: Sink, C: Clock>(
     script: &str,
 ) -> Status
     ensures usage { result ≡ Status.Usage → ⊥ }
-    ensures answer { ToldOf (Some (run table.now script.now)) (S.files store.old) (I.contents inputs.old) (C.time clock.old) (λ files answer. Carries (Rose (I.faults inputs.old) (I.faults inputs.new)) answer result) }
+    ensures answer { ToldOf (Some (run table.now script.now)) (S.files store.old) (I.contents inputs.old) (C.time clock.old)
+        (λ files answer. Carries (Rose (I.faults inputs.old) (I.faults inputs.new)) answer result) }
     ensures store { HasStoreCause result (S.faults store.old) (S.faults store.new) (S.unsettled store.new) }
     ensures input { HasInputCause result (I.contents inputs.old) (I.faults inputs.old) (I.faults inputs.new) }
     ensures output_failed { result ≡ Status.OutputFailed → Rose (K.faults out.old) (K.faults out.new) }
     ensures complete { ¬ Rose (S.faults store.old) (S.faults store.new) → ¬ Rose (I.faults inputs.old) (I.faults inputs.new) → ¬ Rose (K.faults out.old) (K.faults out.new)
-        → ToldOf (Some (run table.now script.now)) (S.files store.old) (I.contents inputs.old) (C.time clock.old) (λ files answer. (result ≡ Status.Memory) ⊎ (result ≡ status_of answer)) }
-    ensures quiet { result ≡ Status.Done → IsSettledBy (Some (run table.now script.now)) (S.faults store.old) (S.faults store.new) (S.unsettled store.new) × (I.faults inputs.new ≡ I.faults inputs.old) × (K.faults out.new ≡ K.faults out.old) }
-    ensures leaves { ToldOf (Some (run table.now script.now)) (S.files store.old) (I.contents inputs.old) (C.time clock.old) (λ files answer. Leaves answer result files (S.files store.new)) }
+        → ToldOf (Some (run table.now script.now)) (S.files store.old) (I.contents inputs.old) (C.time clock.old)
+        (λ files answer. (result ≡ Status.Memory) ⊎ (result ≡ status_of answer)) }
+    ensures quiet { result ≡ Status.Done → IsSettledBy (Some (run table.now script.now)) (S.faults store.old) (S.faults store.new)
+        (S.unsettled store.new) × (I.faults inputs.new ≡ I.faults inputs.old) × (K.faults out.new ≡ K.faults out.old) }
+    ensures leaves { ToldOf (Some (run table.now script.now)) (S.files store.old) (I.contents inputs.old) (C.time clock.old)
+        (λ files answer. LeavesAnswered answer result files (S.files store.new)) }
     ensures only_reads { OnlyReads (Some (run table.now script.now)) → S.files store.new ≡ S.files store.old }
     ensures kept { KeepsFiles (S.files store.old) (S.files store.new) }
-    ensures report { ToldOf (Some (run table.now script.now)) (S.files store.old) (I.contents inputs.old) (C.time clock.old) (λ files answer. Writes (report_lines answer result) (K.written out.old) (K.written out.new) (K.faults out.old) (K.faults out.new)) }
-    ensures fault_lines { IsFault result → (steps : Seq ℕ) × (RunsNothing (Some (run table.now script.now)) → steps ≡ []) × Writes (steps ++ fault_lines result) (K.written out.old) (K.written out.new) (K.faults out.old) (K.faults out.new) }
+    ensures report { ToldOf (Some (run table.now script.now)) (S.files store.old) (I.contents inputs.old) (C.time clock.old)
+        (λ files answer. Writes (report_lines answer result) (K.written out.old) (K.written out.new) (K.faults out.old)
+        (K.faults out.new)) }
+    ensures fault_lines { IsFault result → (steps : Seq ℕ) × (RunsNothing (Some (run table.now script.now)) → steps ≡ [])
+        × Writes (steps ++ fault_lines result) (K.written out.old) (K.written out.new) (K.faults out.old) (K.faults out.new) }
     ensures runs { OfRun (Some (run table.now script.now)) (S.files store.old) (I.contents inputs.old) (λ table begun files. IsUnread result (I.faults inputs.old) (I.faults inputs.new) files (S.files store.new)
         ⊎ ((new : Files) × (S.files store.new ≡ Some new) × IsRan table begun files new result (K.written out.old) (K.written out.new) (K.faults out.old) (K.faults out.new))) }
 {
@@ -108,18 +122,25 @@ fn answer<S: Store, I: Inputs, K: Sink, C: Clock>(
 ) -> Status
     requires { RunsNothing (Some (wanted command)) }
     ensures usage { result ≡ Status.Usage → ⊥ }
-    ensures answer { ToldOf (Some (wanted command.entry)) (S.files store.old) (I.contents inputs.old) (C.time clock.old) (λ files answer. Carries (Rose (I.faults inputs.old) (I.faults inputs.new)) answer result) }
+    ensures answer { ToldOf (Some (wanted command.entry)) (S.files store.old) (I.contents inputs.old) (C.time clock.old)
+        (λ files answer. Carries (Rose (I.faults inputs.old) (I.faults inputs.new)) answer result) }
     ensures store { HasStoreCause result (S.faults store.old) (S.faults store.new) (S.unsettled store.new) }
     ensures input { HasInputCause result (I.contents inputs.old) (I.faults inputs.old) (I.faults inputs.new) }
     ensures output_failed { result ≡ Status.OutputFailed → Rose (K.faults out.old) (K.faults out.new) }
     ensures complete { ¬ Rose (S.faults store.old) (S.faults store.new) → ¬ Rose (I.faults inputs.old) (I.faults inputs.new) → ¬ Rose (K.faults out.old) (K.faults out.new)
-        → ToldOf (Some (wanted command.entry)) (S.files store.old) (I.contents inputs.old) (C.time clock.old) (λ files answer. (result ≡ Status.Memory) ⊎ (result ≡ status_of answer)) }
-    ensures quiet { result ≡ Status.Done → IsSettledBy (Some (wanted command.entry)) (S.faults store.old) (S.faults store.new) (S.unsettled store.new) × (I.faults inputs.new ≡ I.faults inputs.old) × (K.faults out.new ≡ K.faults out.old) }
-    ensures leaves { ToldOf (Some (wanted command.entry)) (S.files store.old) (I.contents inputs.old) (C.time clock.old) (λ files answer. Leaves answer result files (S.files store.new)) }
+        → ToldOf (Some (wanted command.entry)) (S.files store.old) (I.contents inputs.old) (C.time clock.old)
+        (λ files answer. (result ≡ Status.Memory) ⊎ (result ≡ status_of answer)) }
+    ensures quiet { result ≡ Status.Done → IsSettledBy (Some (wanted command.entry)) (S.faults store.old) (S.faults store.new)
+        (S.unsettled store.new) × (I.faults inputs.new ≡ I.faults inputs.old) × (K.faults out.new ≡ K.faults out.old) }
+    ensures leaves { ToldOf (Some (wanted command.entry)) (S.files store.old) (I.contents inputs.old) (C.time clock.old)
+        (λ files answer. LeavesAnswered answer result files (S.files store.new)) }
     ensures only_reads { OnlyReads (Some (wanted command.entry)) → S.files store.new ≡ S.files store.old }
     ensures kept { KeepsFiles (S.files store.old) (S.files store.new) }
-    ensures report { ToldOf (Some (wanted command.entry)) (S.files store.old) (I.contents inputs.old) (C.time clock.old) (λ files answer. Writes (report_lines answer result) (K.written out.old) (K.written out.new) (K.faults out.old) (K.faults out.new)) }
-    ensures fault_lines { IsFault result → (steps : Seq ℕ) × (RunsNothing (Some (wanted command.entry)) → steps ≡ []) × Writes (steps ++ fault_lines result) (K.written out.old) (K.written out.new) (K.faults out.old) (K.faults out.new) }
+    ensures report { ToldOf (Some (wanted command.entry)) (S.files store.old) (I.contents inputs.old) (C.time clock.old)
+        (λ files answer. Writes (report_lines answer result) (K.written out.old) (K.written out.new) (K.faults out.old)
+        (K.faults out.new)) }
+    ensures fault_lines { IsFault result → (steps : Seq ℕ) × (RunsNothing (Some (wanted command.entry)) → steps ≡ [])
+        × Writes (steps ++ fault_lines result) (K.written out.old) (K.written out.new) (K.faults out.old) (K.faults out.new) }
     ensures runs { OfRun (Some (wanted command.entry)) (S.files store.old) (I.contents inputs.old) (λ table begun files. IsUnread result (I.faults inputs.old) (I.faults inputs.new) files (S.files store.new)
         ⊎ ((new : Files) × (S.files store.new ≡ Some new) × IsRan table begun files new result (K.written out.old) (K.written out.new) (K.faults out.old) (K.faults out.new))) }
 {
@@ -138,9 +159,12 @@ fn carry_out<S: Store, I: Inputs, C: Clock>(
     clock: &mut C,
 ) -> Result<Vec<u8>, Status>
     requires { RunsNothing (Some (wanted command)) }
-    ensures found { IfOk result (λ lines. ToldOf (Some (wanted command.entry)) (S.files store.old) (I.contents inputs.old) (C.time clock.old) (λ files answer. Prints answer lines.items)) }
-    ensures refused { IfErr result (λ status. ToldOf (Some (wanted command.entry)) (S.files store.old) (I.contents inputs.old) (C.time clock.old) (λ files answer. Carries (Rose (I.faults inputs.old) (I.faults inputs.new)) answer status)) }
-    ensures leaves { ToldOf (Some (wanted command.entry)) (S.files store.old) (I.contents inputs.old) (C.time clock.old) (λ files answer. Leaves answer (so_far result) files (S.files store.new)) }
+    ensures found { IfOk result (λ lines. ToldOf (Some (wanted command.entry)) (S.files store.old) (I.contents inputs.old)
+        (C.time clock.old) (λ files answer. Prints answer lines.items)) }
+    ensures refused { IfErr result (λ status. ToldOf (Some (wanted command.entry)) (S.files store.old) (I.contents inputs.old)
+        (C.time clock.old) (λ files answer. Carries (Rose (I.faults inputs.old) (I.faults inputs.new)) answer status)) }
+    ensures leaves { ToldOf (Some (wanted command.entry)) (S.files store.old) (I.contents inputs.old) (C.time clock.old)
+        (λ files answer. LeavesAnswered answer (so_far result) files (S.files store.new)) }
     ensures only_reads { OnlyReads (Some (wanted command.entry)) → S.files store.new ≡ S.files store.old }
     ensures kept { KeepsFiles (S.files store.old) (S.files store.new) }
     ensures kind { IfErr result IsFault }
@@ -160,7 +184,7 @@ fn carry_out<S: Store, I: Inputs, C: Clock>(
 fn rows<S: Store>(alloc: Global, store: &mut S, table: &str) -> Result<Vec<u8>, Status>
     ensures found { IfOk result (λ lines. ForSome (S.files store.old) (λ files. Prints (rows_answer files (table_rows table.now files)) lines.items)) }
     ensures refused { IfErr result (λ status. ForSome (S.files store.old) (λ files. Carries ⊥ (rows_answer files (table_rows table.now files)) status)) }
-    ensures leaves { ForSome (S.files store.old) (λ files. Leaves (rows_answer files (table_rows table.now files)) (so_far result) files (S.files store.new)) }
+    ensures leaves { ForSome (S.files store.old) (λ files. LeavesAnswered (rows_answer files (table_rows table.now files)) (so_far result) files (S.files store.new)) }
     ensures files { S.files store.new ≡ S.files store.old }
     ensures kind { IfErr result IsRefusal }
     ensures store { IfErr result (λ status. HasStoreCause status (S.faults store.old) (S.faults store.new) (S.unsettled store.new)) }

@@ -5,25 +5,24 @@ ghost use Rattle.plain_types.specs.Causes.{Rose};
 ghost use Rattle.row_values.specs.declared.value.Value.{Value as Content};
 ghost use Rattle.store_core.specs.Files.{Files, KeepsFiles};
 ghost use Rattle.run_report.specs.Report.{lines_of_branch, lines_of_steps};
-ghost use Rattle.branch_rows.specs.Rows.{current_rows};
-ghost use Rattle.session_work.specs.Open.{IsOpen};
-ghost use Rattle.session_loop.specs.Scripts.{WasRead};
+ghost use Rattle.schedule_runner.specs.Rows.{current_rows};
+ghost use Rattle.session_steps.specs.Open.{IsOpen};
+ghost use Rattle.schedule_runner.specs.Scripts.{WasRead};
 ghost use Rattle.dml_program.specs.Answers.{IsFault, Writes};
 ghost use Rattle.dml_program.specs.Causes.{HasStoreCause};
 ghost use Rattle.dml_program.specs.Opening.{load_status};
-ghost use Rattle.dml_program.specs.ScriptRuns.{IsBroken, IsCarriedOut, IsRan, IsRunEnd, IsTold, IsWhole, IsWritten, names_in, status_of_fault, status_of_steps};
+ghost use Rattle.dml_program.specs.ScriptRuns.{IsBroken, HasEnded, IsRan, IsRunEnd, IsTold, IsWhole, IsWritten, names_in, status_of_fault, status_of_steps};
 ghost use Rattle.dml_program.specs.Statuses.{fault_lines};
 
 use crate::begin::Begun;
 use crate::open::later;
 use crate::report::fault_lines;
 use crate::status::{Status, TableKind};
-use branch_rows::count_rows;
 use dml_parser::Script;
 use plain_types::Text;
-use report_lines::Stepped;
 use run_report::{is_refused, name_of, push_branch, push_steps};
-use session_loop::{Run, run_script};
+use schedule_runner::{Run, count_rows, run_script};
+use session_machine::Stepped;
 use session_steps::RunFault;
 use std::alloc::{AllocError, Global};
 use store_core::{Clock, Sink, Store, write_all};
@@ -47,13 +46,16 @@ pub(crate) fn run_begun<S: Store, K: Sink, C: Clock>(
 ) -> Status
     requires read { WasRead begun.now.schema begun.now.script }
     requires open { ForSome (S.files store.old) (λ files. IsOpen table.now begun.now.schema files begun.now.version) }
-    ensures runs { ForSome (S.files store.old) (λ files. (new : Files) × (S.files store.new ≡ Some new) × IsRan table.now begun.now files new result (K.written out.old) (K.written out.new) (K.faults out.old) (K.faults out.new)) }
+    ensures runs { ForSome (S.files store.old) (λ files. (new : Files) × (S.files store.new ≡ Some new)
+        × IsRan table.now begun.now files new result (K.written out.old) (K.written out.new) (K.faults out.old)
+        (K.faults out.new)) }
     ensures kept { KeepsFiles (S.files store.old) (S.files store.new) }
     ensures kind { IsRunEnd result }
     ensures store { HasStoreCause result (S.faults store.old) (S.faults store.new) (S.unsettled store.new) }
     ensures output_failed { result ≡ Status.OutputFailed → Rose (K.faults out.old) (K.faults out.new) }
     ensures quiet { result ≡ Status.Done → K.faults out.new ≡ K.faults out.old }
-    ensures fault_lines { IsFault result → (steps : Seq ℕ) × Writes (steps ++ fault_lines result) (K.written out.old) (K.written out.new) (K.faults out.old) (K.faults out.new) }
+    ensures fault_lines { IsFault result → (steps : Seq ℕ) × Writes (steps ++ fault_lines result) (K.written out.old)
+        (K.written out.new) (K.faults out.old) (K.faults out.new) }
 {
     let Run { steps, ended } = run_script(alloc, store, clock, table, &begun.schema, &begun.script);
     let script = &begun.script;
@@ -73,7 +75,9 @@ fn tell_stop<K: Sink>(
     fault: RunFault,
 ) -> Status
     requires within { (session statement : ℕ) → fault ≡ RunFault.Unknown session statement → statement < 4096 }
-    ensures report { (files : Files) → IsTold table.now (names_in script.now) files steps.now (Some fault) result (K.written out.old) (K.written out.new) (K.faults out.old) (K.faults out.new) }
+    ensures report { (files : Files)
+        → IsTold table.now (names_in script.now) files steps.now (Some fault) result (K.written out.old) (K.written out.new)
+        (K.faults out.old) (K.faults out.new) }
     ensures status { (result ≡ Status.Memory) ⊎ (result ≡ status_of_fault table.now (names_in script.now) fault) }
     ensures kind { IsRunEnd result }
     ensures stops { IsFault result }
@@ -94,7 +98,10 @@ fn tell_end<S: Store, K: Sink>(
     script: &Script,
     steps: &[Stepped],
 ) -> Status
-    ensures report { ForSome (S.files store.old) (λ files. (rows : Seq (Seq Content)) → current_rows table.now (codes "main") files ≡ Ok rows → IsTold table.now (names_in script.now) files steps.now None result (K.written out.old) (K.written out.new) (K.faults out.old) (K.faults out.new)) }
+    ensures report { ForSome (S.files store.old) (λ files. (rows : Seq (Seq Content))
+        → current_rows table.now (codes "main") files ≡ Ok rows
+        → IsTold table.now (names_in script.now) files steps.now None result (K.written out.old) (K.written out.new)
+        (K.faults out.old) (K.faults out.new)) }
     ensures files { S.files store.new ≡ S.files store.old }
     ensures later { S.faults store.old ≤ S.faults store.new }
     ensures store { HasStoreCause result (S.faults store.old) (S.faults store.new) (S.unsettled store.new) }
@@ -102,7 +109,8 @@ fn tell_end<S: Store, K: Sink>(
     ensures known { (session : Seq ℕ) (number : ℕ) → result ≡ Status.StateUnknown session number → ⊥ }
     ensures output_failed { result ≡ Status.OutputFailed → Rose (K.faults out.old) (K.faults out.new) }
     ensures quiet { result ≡ Status.Done → K.faults out.new ≡ K.faults out.old }
-    ensures fault_lines { IsFault result → (front : Seq ℕ) × Writes (front ++ fault_lines result) (K.written out.old) (K.written out.new) (K.faults out.old) (K.faults out.new) }
+    ensures fault_lines { IsFault result → (front : Seq ℕ) × Writes (front ++ fault_lines result) (K.written out.old)
+        (K.written out.new) (K.faults out.old) (K.faults out.new) }
 {
     match whole_report(alloc, store, table, script, steps) {
         Ok(report) => write_report(out, report),
@@ -186,7 +194,8 @@ fn whole_report<S: Store>(
     steps: &[Stepped],
 ) -> Result<Report, Status>
     ensures report { IfOk result (λ report. ForSome (S.files store.old) (λ files. (rows : Seq (Seq Content)) → current_rows table.now (codes "main") files ≡ Ok rows
-        → IsWhole table.now (names_in script.now) files steps.now report.status report.lines.items ⊎ ((report.status ≡ Status.StoreFailed) × IsBroken (names_in script.now) steps.now report.status report.lines.items))) }
+        → IsWhole table.now (names_in script.now) files steps.now report.status report.lines.items ⊎ ((report.status ≡ Status.StoreFailed)
+        × IsBroken (names_in script.now) steps.now report.status report.lines.items))) }
     ensures lines { IfOk result (λ report. IsFault report.status → IsBroken (names_in script.now) steps.now report.status report.lines.items) }
     ensures kind { IfOk result (λ report. IsRunEnd report.status) }
     ensures known { IfOk result (λ report. (session : Seq ℕ) (number : ℕ) → report.status ≡ Status.StateUnknown session number → ⊥) }
@@ -273,8 +282,8 @@ fn write_report<K: Sink>(out: &mut K, report: Report) -> Status
 
 // The status of a call whose report was not written.
 fn unwritten(status: Status) -> Status
-    ensures carried_out { IsCarriedOut status → result ≡ Status.OutputFailed }
-    ensures fault { (IsCarriedOut status → ⊥) → result ≡ status }
+    ensures carried_out { HasEnded status → result ≡ Status.OutputFailed }
+    ensures fault { (HasEnded status → ⊥) → result ≡ status }
 {
     match status {
         Status::Done | Status::Refused => Status::OutputFailed,

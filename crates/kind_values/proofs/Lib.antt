@@ -1,3 +1,9 @@
-pub mod Digits
-pub mod Octets
-pub mod Texts
+mod Amounts
+mod BoundLaws
+pub mod CallerLemmas
+mod Digits
+mod Fewest
+mod Octets
+mod Steps
+mod Texts
+mod Written

@@ -5,7 +5,7 @@ use Rattle.row_values.specs.declared.kind.Kind.{Kind}
 use Rattle.row_values.specs.declared.value.Value.{Value}
 use Rattle.row_values.specs.declared.value.Value.TheVariants as value
 use Rattle.row_values.specs.Rows.{is_value}
-use Rattle.number_bytes.specs.BigEndian.{signed_of}
+use Rattle.kind_values.specs.BigEndian.{signed_of}
 
 -- the value, where it is one of the kind
 abbrev pub of_kind : Kind → Value → Option Value

@@ -1,1 +1,4 @@
+pub mod BigEndian
+pub mod Bounds
 pub mod KindValues
+pub mod LittleEndian

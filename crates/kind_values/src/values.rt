@@ -3,7 +3,7 @@ ghost use Rattle.std.specs.Prelude.{◌≡◌, IfOk, option_and_then};
 ghost use Rattle.row_values.specs.Rows.{has_digits};
 ghost use Rattle.kind_values.specs.KindValues.{of_kind, decimal_of};
 
-use number_bytes::signed_of;
+use crate::big_endian::signed_of;
 use row_values::{Bytes, Kind, Text, Value};
 use std::alloc::{AllocError, Global};
 

@@ -1,3 +1,4 @@
-pub mod EntryLaws
-pub mod StatisticsLaws
-pub mod Texts
+pub mod CallerLemmas
+mod EntryLaws
+mod StatisticsLaws
+mod Texts

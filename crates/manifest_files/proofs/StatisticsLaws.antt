@@ -8,7 +8,7 @@ use Rattle.std.proofs.lemmas.Int.{ints}
 use Rattle.std.proofs.lemmas.Bool.Decides.{nat_tests}
 use Rattle.row_values.specs.declared.schema.Column.{Column}
 use Rattle.avro_binary.specs.declared.datum.Datum.{Datum}
-use Rattle.column_bounds.specs.declared.stats.ColumnStats.{ColumnStats}
+use Rattle.kind_values.specs.declared.stats.ColumnStats.{ColumnStats}
 use Rattle.manifest_files.specs.declared.known_column.KnownColumn.{KnownColumn}
 use Rattle.manifest_files.specs.declared.places.FilePlaces.{FilePlaces}
 use Rattle.manifest_files.specs.Statistics.{place_from, stands_at, with_column, with_columns, path_column, position_column, known_columns, facts_of, tells, stats_from}
@@ -58,7 +58,11 @@ cons_by : (b : Bool) (first : KnownColumn) (xs ys : List KnownColumn) → cond b
 cons_by true first xs ys = refl
 cons_by false first xs ys = refl
 
-step_by : (column first : KnownColumn) (columns rest : List KnownColumn) (b : Bool) (p q : ℕ) → p ≡ suc q → cond (stands_at column.id q columns) columns (insert columns q column) ≡ rest → cond (stands_at column.id (cond b p 0) (first ∷ columns)) (first ∷ columns) (insert (first ∷ columns) (cond b p 0) column) ≡ cond b (first ∷ rest) (cond (int_eq first.id column.id) (first ∷ columns) (column ∷ first ∷ columns))
+step_by : (column first : KnownColumn) (columns rest : List KnownColumn) (b : Bool) (p q : ℕ) → p ≡ suc q
+    → cond (stands_at column.id q columns) columns (insert columns q column) ≡ rest
+    → cond (stands_at column.id (cond b p 0) (first ∷ columns)) (first ∷ columns)
+    (insert (first ∷ columns) (cond b p 0) column) ≡ cond b (first ∷ rest)
+    (cond (int_eq first.id column.id) (first ∷ columns) (column ∷ first ∷ columns))
 step_by column first columns rest true p q h k = rw h (cons_by (stands_at column.id q columns) first columns (insert columns q column) ∙ ap (λ (xs : List KnownColumn). first ∷ xs) k)
 step_by column first columns rest false p q h k = refl
 
@@ -67,20 +71,27 @@ unfolding place_from
 with_is_placed column [] = refl
 with_is_placed column (first ∷ columns) = step_by column first columns (placed column columns) (int_lt first.id column.id) (place_from column.id 1 columns) (place_from column.id 0 columns) (place_shift column.id 0 columns) (with_is_placed column columns)
 
-above_by : (id : ℤ) (column first : KnownColumn) (columns rest : List KnownColumn) (a b : Bool) → int_lt id column.id ≡ true → list_all (λ other. int_lt id other.id) (first ∷ columns) ≡ true → list_all (λ other. int_lt id other.id) rest ≡ true → list_all (λ other. int_lt id other.id) (cond a (first ∷ rest) (cond b (first ∷ columns) (column ∷ first ∷ columns))) ≡ true
+above_by : (id : ℤ) (column first : KnownColumn) (columns rest : List KnownColumn) (a b : Bool) → int_lt id column.id ≡ true
+    → list_all (λ other. int_lt id other.id) (first ∷ columns) ≡ true → list_all (λ other. int_lt id other.id) rest ≡ true
+    → list_all (λ other. int_lt id other.id) (cond a (first ∷ rest) (cond b (first ∷ columns) (column ∷ first ∷ columns))) ≡ true
 above_by id column first columns rest true b low all more = both (int_lt id first.id) (list_all (λ other. int_lt id other.id) rest) (first_holds (int_lt id first.id) (list_all (λ other. int_lt id other.id) columns) all) more
 above_by id column first columns rest false true low all more = all
 above_by id column first columns rest false false low all more = both (int_lt id column.id) (list_all (λ other. int_lt id other.id) (first ∷ columns)) low all
 
-above_placed : (id : ℤ) (column : KnownColumn) (columns : List KnownColumn) → int_lt id column.id ≡ true → list_all (λ other. int_lt id other.id) columns ≡ true → list_all (λ other. int_lt id other.id) (placed column columns) ≡ true
+above_placed : (id : ℤ) (column : KnownColumn) (columns : List KnownColumn) → int_lt id column.id ≡ true
+    → list_all (λ other. int_lt id other.id) columns ≡ true
+    → list_all (λ other. int_lt id other.id) (placed column columns) ≡ true
 above_placed id column [] low all = both (int_lt id column.id) true low refl
 above_placed id column (first ∷ columns) low all = above_by id column first columns (placed column columns) (int_lt first.id column.id) (int_eq first.id column.id) low all (above_placed id column columns low (rest_holds (int_lt id first.id) (list_all (λ other. int_lt id other.id) columns) all))
 
-above_lower : (low high : ℤ) (columns : List KnownColumn) → int_lt low high ≡ true → list_all (λ other. int_lt high other.id) columns ≡ true → list_all (λ other. int_lt low other.id) columns ≡ true
+above_lower : (low high : ℤ) (columns : List KnownColumn) → int_lt low high ≡ true
+    → list_all (λ other. int_lt high other.id) columns ≡ true → list_all (λ other. int_lt low other.id) columns ≡ true
 above_lower low high [] lt all = refl
 above_lower low high (first ∷ columns) lt all = both (int_lt low first.id) (list_all (λ other. int_lt low other.id) columns) (below_next low high first.id lt (first_holds (int_lt high first.id) (list_all (λ other. int_lt high other.id) columns) all)) (above_lower low high columns lt (rest_holds (int_lt high first.id) (list_all (λ other. int_lt high other.id) columns) all))
 
-rising_by : (column first : KnownColumn) (columns : List KnownColumn) (a b : Bool) → int_lt first.id column.id ≡ a → int_eq first.id column.id ≡ b → rising (first ∷ columns) ≡ true → rising (placed column columns) ≡ true → rising (cond a (first ∷ placed column columns) (cond b (first ∷ columns) (column ∷ first ∷ columns))) ≡ true
+rising_by : (column first : KnownColumn) (columns : List KnownColumn) (a b : Bool) → int_lt first.id column.id ≡ a
+    → int_eq first.id column.id ≡ b → rising (first ∷ columns) ≡ true → rising (placed column columns) ≡ true
+    → rising (cond a (first ∷ placed column columns) (cond b (first ∷ columns) (column ∷ first ∷ columns))) ≡ true
 rising_by column first columns true b lt eq up more = both (list_all (λ other. int_lt first.id other.id) (placed column columns)) (rising (placed column columns)) (above_placed first.id column columns lt (first_holds (list_all (λ other. int_lt first.id other.id) columns) (rising columns) up)) more
 rising_by column first columns false true lt eq up more = up
 rising_by column first columns false false lt eq up more =
@@ -114,34 +125,49 @@ known_rising columns = known_rise columns
 
 -- ---- statistics
 
-split_by : (places : FilePlaces) (file : List Datum) (facts : ColumnStats) (earlier : List ColumnStats) (columns : List KnownColumn) (b : Bool) → ((front : List ColumnStats) → stats_from places file front columns ≡ front ++ stats_from places file [] columns) → stats_from places file (cond b (earlier ++ facts ∷ []) earlier) columns ≡ earlier ++ stats_from places file (cond b ([] ++ facts ∷ []) []) columns
+split_by : (places : FilePlaces) (file : List Datum) (facts : ColumnStats) (earlier : List ColumnStats)
+    (columns : List KnownColumn) (b : Bool) → ((front : List ColumnStats)
+    → stats_from places file front columns ≡ front ++ stats_from places file [] columns)
+    → stats_from places file (cond b (earlier ++ facts ∷ []) earlier) columns ≡ earlier ++ stats_from places file (cond b ([] ++ facts ∷ [])
+    []) columns
 split_by places file facts earlier columns true split = split (earlier ++ facts ∷ []) ∙ append_assoc earlier (facts ∷ []) (stats_from places file [] columns) ∙ ap (λ (xs : List ColumnStats). earlier ++ xs) (sym (split (facts ∷ [])))
 split_by places file facts earlier columns false split = split earlier
 
-stats_split : (places : FilePlaces) (file : List Datum) (earlier : List ColumnStats) (columns : List KnownColumn) → stats_from places file earlier columns ≡ earlier ++ stats_from places file [] columns
+stats_split : (places : FilePlaces) (file : List Datum) (earlier : List ColumnStats) (columns : List KnownColumn)
+    → stats_from places file earlier columns ≡ earlier ++ stats_from places file [] columns
 unfolding stats_from
 stats_split places file earlier [] = sym (append-nil earlier)
 stats_split places file earlier (column ∷ columns) = split_by places file (facts_of places file column) earlier columns (tells (facts_of places file column)) (λ front. stats_split places file front columns)
 
 -- the statistics of one column more
-front_by : (places : FilePlaces) (file : List Datum) (facts : ColumnStats) (columns : List KnownColumn) (b : Bool) → stats_from places file (cond b ([] ++ facts ∷ []) []) columns ≡ cond b (facts ∷ stats_from places file [] columns) (stats_from places file [] columns)
+front_by : (places : FilePlaces) (file : List Datum) (facts : ColumnStats) (columns : List KnownColumn) (b : Bool)
+    → stats_from places file (cond b ([] ++ facts ∷ []) []) columns ≡ cond b (facts ∷ stats_from places file [] columns)
+    (stats_from places file [] columns)
 front_by places file facts columns true = stats_split places file (facts ∷ []) columns
 front_by places file facts columns false = refl
 
-front : (places : FilePlaces) (file : List Datum) (column : KnownColumn) (columns : List KnownColumn) → stats_from places file [] (column ∷ columns) ≡ cond (tells (facts_of places file column)) (facts_of places file column ∷ stats_from places file [] columns) (stats_from places file [] columns)
+front : (places : FilePlaces) (file : List Datum) (column : KnownColumn) (columns : List KnownColumn)
+    → stats_from places file [] (column ∷ columns) ≡ cond (tells (facts_of places file column))
+    (facts_of places file column ∷ stats_from places file [] columns) (stats_from places file [] columns)
 unfolding stats_from
 front places file column columns = front_by places file (facts_of places file column) columns (tells (facts_of places file column))
 
-stats_above_by : (id : ℤ) (facts : ColumnStats) (others : List ColumnStats) (b : Bool) → int_lt id facts.id ≡ true → list_all (λ other. int_lt id other.id) others ≡ true → list_all (λ other. int_lt id other.id) (cond b (facts ∷ others) others) ≡ true
+stats_above_by : (id : ℤ) (facts : ColumnStats) (others : List ColumnStats) (b : Bool) → int_lt id facts.id ≡ true
+    → list_all (λ other. int_lt id other.id) others ≡ true
+    → list_all (λ other. int_lt id other.id) (cond b (facts ∷ others) others) ≡ true
 stats_above_by id facts others true low all = both (int_lt id facts.id) (list_all (λ other. int_lt id other.id) others) low all
 stats_above_by id facts others false low all = all
 
-stats_above : (places : FilePlaces) (file : List Datum) (id : ℤ) (columns : List KnownColumn) → list_all (λ other. int_lt id other.id) columns ≡ true → list_all (λ other. int_lt id other.id) (stats_from places file [] columns) ≡ true
+stats_above : (places : FilePlaces) (file : List Datum) (id : ℤ) (columns : List KnownColumn)
+    → list_all (λ other. int_lt id other.id) columns ≡ true
+    → list_all (λ other. int_lt id other.id) (stats_from places file [] columns) ≡ true
 unfolding stats_from
 stats_above places file id [] all = refl
 stats_above places file id (column ∷ columns) all = ap (list_all (λ (other : ColumnStats). int_lt id other.id)) (front places file column columns) ∙ stats_above_by id (facts_of places file column) (stats_from places file [] columns) (tells (facts_of places file column)) (first_holds (int_lt id column.id) (list_all (λ other. int_lt id other.id) columns) all) (stats_above places file id columns (rest_holds (int_lt id column.id) (list_all (λ other. int_lt id other.id) columns) all))
 
-rise_by : (facts : ColumnStats) (others : List ColumnStats) (b : Bool) → list_all (λ other. int_lt facts.id other.id) others ≡ true → rises others ≡ true → rises (cond b (facts ∷ others) others) ≡ true
+rise_by : (facts : ColumnStats) (others : List ColumnStats) (b : Bool)
+    → list_all (λ other. int_lt facts.id other.id) others ≡ true → rises others ≡ true
+    → rises (cond b (facts ∷ others) others) ≡ true
 rise_by facts others true all up = both (list_all (λ other. int_lt facts.id other.id) others) (rises others) all up
 rise_by facts others false all up = up
 
@@ -154,7 +180,8 @@ pub stats_rise : (places : FilePlaces) (file : List Datum) (columns : List Known
 unfolding IsRising
 stats_rise places file columns up = stats_up places file columns up
 
-tell_by : (facts : ColumnStats) (others : List ColumnStats) (b : Bool) → tells facts ≡ b → list_all tells others ≡ true → list_all tells (cond b (facts ∷ others) others) ≡ true
+tell_by : (facts : ColumnStats) (others : List ColumnStats) (b : Bool) → tells facts ≡ b → list_all tells others ≡ true
+    → list_all tells (cond b (facts ∷ others) others) ≡ true
 tell_by facts others true told all = both (tells facts) (list_all tells others) told all
 tell_by facts others false told all = all
 

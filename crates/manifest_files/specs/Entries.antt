@@ -10,7 +10,7 @@ use Rattle.row_values.specs.declared.value.Value.{Value}
 use Rattle.row_values.specs.declared.value.Value.TheVariants as value
 use Rattle.row_values.specs.declared.schema.TableSchema.{TableSchema}
 use Rattle.row_values.specs.declared.partition.Spec.{Spec}
-use Rattle.column_bounds.specs.declared.stats.Stats.{Stats}
+use Rattle.kind_values.specs.declared.stats.Stats.{Stats}
 use Rattle.avro_binary.specs.declared.datum.Datum.{Datum}
 use Rattle.avro_container.specs.Container.{container_of}
 use Rattle.avro_rows.specs.DatumValue.{value_of}

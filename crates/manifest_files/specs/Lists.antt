@@ -6,7 +6,7 @@ use Rattle.std.specs.Ordering.{int_eq}
 use Rattle.plain_types.specs.Steps.{◌>>=◌, or_fault, fault_if, fault_as}
 use Rattle.row_values.specs.declared.value.Value.{Value}
 use Rattle.row_values.specs.declared.value.Value.TheVariants as value
-use Rattle.column_bounds.specs.declared.stats.Summary.{Summary}
+use Rattle.kind_values.specs.declared.stats.Summary.{Summary}
 use Rattle.avro_binary.specs.declared.datum.Datum.{Datum}
 use Rattle.avro_container.specs.Container.{container_of}
 use Rattle.avro_rows.specs.Rows.{values_of}

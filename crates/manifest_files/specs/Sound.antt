@@ -11,7 +11,7 @@ use Rattle.row_values.specs.declared.schema.TableSchema.{TableSchema}
 use Rattle.row_values.specs.declared.partition.PartField.{PartField}
 use Rattle.row_values.specs.declared.partition.Spec.{Spec}
 use Rattle.row_values.specs.Rows.{is_value, is_null}
-use Rattle.column_bounds.specs.declared.stats.ColumnStats.{ColumnStats}
+use Rattle.kind_values.specs.declared.stats.ColumnStats.{ColumnStats}
 use Rattle.manifest_files.specs.declared.entry.Entry.{Entry}
 use Rattle.manifest_files.specs.PartitionKinds.{kind_of_field}
 use Rattle.manifest_files.specs.Statistics.{tells}

@@ -10,8 +10,8 @@ use Rattle.row_values.specs.declared.value.Value.{Value}
 use Rattle.row_values.specs.declared.schema.Column.{Column}
 use Rattle.avro_binary.specs.declared.datum.Datum.{Datum}
 use Rattle.avro_rows.specs.Rows.{values_of}
-use Rattle.column_bounds.specs.Bounds.{bound_of}
-use Rattle.column_bounds.specs.declared.stats.ColumnStats.{ColumnStats}
+use Rattle.kind_values.specs.Bounds.{bound_of}
+use Rattle.kind_values.specs.declared.stats.ColumnStats.{ColumnStats}
 use Rattle.manifest_files.specs.declared.places.PairPlaces.{PairPlaces}
 use Rattle.manifest_files.specs.declared.places.FilePlaces.{FilePlaces}
 use Rattle.manifest_files.specs.declared.known_column.KnownColumn.{KnownColumn}

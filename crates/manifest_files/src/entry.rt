@@ -1,6 +1,6 @@
 //! An entry of a manifest.
 
-use column_bounds::Stats;
+use kind_values::Stats;
 use row_values::{List, Row, Text};
 
 /// What a file holds.

@@ -1,6 +1,18 @@
 //! Finds fields by their ids.
 ghost use Rattle.std.specs.Prelude.{◌≡◌, option_map};
-ghost use Rattle.manifest_files.specs.Places.{field_at, typed, needed, optional, optional_items, fields_under, fields_of_items, typed_at, no_pairs, pairs_in, pairs};
+ghost use Rattle.manifest_files.specs.Places.{
+  field_at,
+  typed,
+  needed,
+  optional,
+  optional_items,
+  fields_under,
+  fields_of_items,
+  typed_at,
+  no_pairs,
+  pairs_in,
+  pairs,
+};
 
 use crate::ManifestFault;
 use crate::field_type::{FieldType, element_fields, has_items, has_type, record_fields};

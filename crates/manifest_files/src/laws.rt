@@ -11,5 +11,6 @@ ghost use Rattle.manifest_files.specs.Sound.{AreEntries};
 /// has a value for each field of the spec, NULL or of the kind that the field's transform gives. Its statistics stand in
 /// strictly rising order of ids, and each tells something.
 pub fn entries_are_of_their_spec()
-    ensures { (bytes : List ℕ) (row : ManifestRow) (spec : Spec) (schema : TableSchema) (entries : List Entry) → entries_of bytes row spec schema ≡ Ok entries → AreEntries spec schema entries }
+    ensures { (bytes : List ℕ) (row : ManifestRow) (spec : Spec) (schema : TableSchema) (entries : List Entry)
+        → entries_of bytes row spec schema ≡ Ok entries → AreEntries spec schema entries }
 {}

@@ -1,6 +1,16 @@
 //! The places of the fields of manifests and of lists, or the first fault in the order of the fields.
 ghost use Rattle.std.specs.Prelude.{◌≡◌, ◌≢◌, [], IfOk, IfErr, Ok, Err};
-ghost use Rattle.manifest_files.specs.Places.{part_place, part_places, file_places, entry_places, no_summaries, summary_fields, summaries_at, summary_places, row_places};
+ghost use Rattle.manifest_files.specs.Places.{
+  part_place,
+  part_places,
+  file_places,
+  entry_places,
+  no_summaries,
+  summary_fields,
+  summaries_at,
+  summary_places,
+  row_places,
+};
 
 use crate::ManifestFault;
 use crate::field_type::FieldType;

@@ -2,7 +2,19 @@
 ghost use Rattle.std.specs.Prelude.{◌≡◌, ◌≢◌, [], IfOk, IfErr, Ok, Err};
 ghost use Rattle.plain_types.specs.Steps.{fault_as};
 ghost use Rattle.avro_container.specs.Container.{container_of};
-ghost use Rattle.manifest_files.specs.Lists.{file_count, row_count, content_of, bound_at, summary_of, summaries_from, row_head, whole_row, row_of, rows_from, rows_of_list};
+ghost use Rattle.manifest_files.specs.Lists.{
+  file_count,
+  row_count,
+  content_of,
+  bound_at,
+  summary_of,
+  summaries_from,
+  row_head,
+  whole_row,
+  row_of,
+  rows_from,
+  rows_of_list,
+};
 
 use crate::datum_values::{
     boolean_at, bytes_at, int_at, items_at, long_at, present_at, present_in,
@@ -15,7 +27,7 @@ use crate::{ManifestContent, ManifestFault, ManifestRow};
 use avro_binary::Datum;
 use avro_container::{Container, ContainerFault, read_container};
 use avro_rows::{fields_of, values_of};
-use column_bounds::Summary;
+use kind_values::Summary;
 use row_values::{Bytes, List, Value};
 use std::alloc::{AllocError, Global};
 

@@ -1,6 +1,30 @@
 //! The entries of a manifest.
 ghost use Rattle.std.specs.Prelude.{◌≡◌, ◌≢◌, [], IfOk, IfErr, Ok, Err};
-ghost use Rattle.manifest_files.specs.Entries.{status_of, status_at, is_live, raw_numbers, content_of, content_at, is_avro, format_at, part_value, part_values, partition_at, id_in, ids_from, whole_map, whole_maps, single_keys, file_parts, known_format, allowed, whole_entry, entry_of, entries_from, entries_of};
+ghost use Rattle.manifest_files.specs.Entries.{
+  status_of,
+  status_at,
+  is_live,
+  raw_numbers,
+  content_of,
+  content_at,
+  is_avro,
+  format_at,
+  part_value,
+  part_values,
+  partition_at,
+  id_in,
+  ids_from,
+  whole_map,
+  whole_maps,
+  single_keys,
+  file_parts,
+  known_format,
+  allowed,
+  whole_entry,
+  entry_of,
+  entries_from,
+  entries_of,
+};
 
 use crate::datum_values::{
     int_at, int_in, items_at, long_at, present, present_at, present_in, text_at, text_bytes_at,
@@ -16,7 +40,7 @@ use crate::statistics::{are_pairs, has_twice, known_columns, stats_of};
 use crate::{Content, Entry, ManifestFault, ManifestRow};
 use avro_binary::Datum;
 use avro_rows::{fields_of, value_of, values_of};
-use column_bounds::Stats;
+use kind_values::Stats;
 use row_values::{List, Row, Spec, TableSchema, Text, Value};
 use std::alloc::Global;
 

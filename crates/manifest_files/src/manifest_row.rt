@@ -1,6 +1,6 @@
 //! A row of a manifest list.
 
-use column_bounds::Summary;
+use kind_values::Summary;
 use row_values::{List, Text};
 
 /// What the files of a manifest hold.

@@ -1,13 +1,34 @@
 //! What an entry tells of a file's columns.
 ghost use Rattle.std.specs.Prelude.{◌≡◌, ◌≤◌, length, [], option_map, IfOk, OnOk};
-ghost use Rattle.manifest_files.specs.Statistics.{place_from, stands_at, with_column, with_columns, path_column, position_column, known_columns, key_in, is_key, is_pair, are_pairs, any_key, has_key, has_twice, value_under, count_of, bound_in, facts_of, tells, stats_from};
+ghost use Rattle.manifest_files.specs.Statistics.{
+  place_from,
+  stands_at,
+  with_column,
+  with_columns,
+  path_column,
+  position_column,
+  known_columns,
+  key_in,
+  is_key,
+  is_pair,
+  are_pairs,
+  any_key,
+  has_key,
+  has_twice,
+  value_under,
+  count_of,
+  bound_in,
+  facts_of,
+  tells,
+  stats_from,
+};
 
 use crate::datum_values::{bytes_in, int_at, items_at, long_in, natural_of, present};
 use crate::known_column::KnownColumn;
 use crate::places::{FilePlaces, PairPlaces};
 use avro_binary::Datum;
 use avro_rows::values_of;
-use column_bounds::{ColumnStats, Stats, read_bound};
+use kind_values::{ColumnStats, Stats, read_bound};
 use row_values::{Column, Kind, List, Value};
 use std::alloc::{AllocError, Global};
 

@@ -7,7 +7,7 @@ use Rattle.row_values.specs.declared.partition.Spec.{Spec}
 use Rattle.avro_binary.specs.declared.datum.Datum.TheVariants as datum
 use Rattle.avro_binary.specs.Shape.{Shape, int_shape, long_shape, bytes_shape, text_shape, record_shape, array_shape, Shapes, no_shapes, more_shapes, shape, level, field_level}
 use Rattle.avro_binary.specs.Spelling.{IsSignedOf, Fits}
-use Rattle.avro_binary.proofs.JsonTexts.{is_text}
+use Rattle.avro_binary.proofs.CallerLemmas.{is_text}
 use Rattle.manifest_files.specs.declared.entry.Content.{Content}
 use Rattle.manifest_files.specs.declared.entry.Content.TheVariants as content
 use Rattle.manifest_files.specs.declared.entry.Entry.{Entry}
@@ -84,21 +84,25 @@ referenced_fits : (text : Option (List ℕ)) → AreUtf8 text → Fits (option_s
 referenced_fits None h = none_fits text_shape
 referenced_fits (Some text) h = some_fits text_shape (datum.Text text) (text_fits text h)
 
-file_fits : (spec : Spec) (schema : TableSchema) (entry : Entry) → HasFile entry → Fits (file_shape (plan_shapes (spec_plans spec schema))) (datum.Record (file_values spec schema entry))
+file_fits : (spec : Spec) (schema : TableSchema) (entry : Entry) → HasFile entry
+    → Fits (file_shape (plan_shapes (spec_plans spec schema))) (datum.Record (file_values spec schema entry))
 file_fits spec schema entry (path, stats, ids, referenced) = record_fits _ _
     (more_fields _ _ _ _ (content_fits entry.content) (more_fields _ _ _ _ (text_fits entry.path path) (more_fields _ _ _ _ (text_fits (codes "AVRO") (is_text (codes "AVRO") refl)) (more_fields _ _ _ _ (record_fits (plan_shapes (spec_plans spec schema)) (part_datums schema.columns spec.fields entry.partition) (parts_fit schema.columns (are_names spec.fields) spec.fields entry.partition))
     (more_fields _ _ _ _ (count_by (nat_lt entry.count (2 ^ 63)) entry.count refl) (more_fields _ _ _ _ (count_by (nat_lt entry.size (2 ^ 63)) entry.size refl)
     (more_fields _ _ _ _ (fact_value_fits fact.Values entry.stats.columns stats) (more_fields _ _ _ _ (fact_value_fits fact.Nulls entry.stats.columns stats) (more_fields _ _ _ _ (fact_value_fits fact.Lower entry.stats.columns stats) (more_fields _ _ _ _ (fact_value_fits fact.Upper entry.stats.columns stats)
     (more_fields _ _ _ _ (ids_value_fits entry.equality_ids ids) (more_fields _ _ _ _ (referenced_fits entry.referenced referenced) no_field))))))))))))
 
-entry_fits : (spec : Spec) (schema : TableSchema) (entry : Entry) → IsEntry entry → Fits (entry_shape (plan_shapes (spec_plans spec schema))) (datum_of_entry spec schema entry)
+entry_fits : (spec : Spec) (schema : TableSchema) (entry : Entry) → IsEntry entry
+    → Fits (entry_shape (plan_shapes (spec_plans spec schema))) (datum_of_entry spec schema entry)
 entry_fits spec schema entry ((snapshot, seq, file_seq), file) = record_fits _ _
     (more_fields _ _ _ _ (status_by (nat_eq entry.status 0) (nat_eq entry.status 1)) (more_fields _ _ _ _ (optional_long_fits (Some entry.snapshot) snapshot) (more_fields _ _ _ _ (optional_long_fits (own_number entry.status entry.seq) seq)
     (more_fields _ _ _ _ (optional_long_fits (own_number entry.status entry.file_seq) file_seq) (more_fields _ _ _ _ (file_fits spec schema entry file) no_field)))))
 
-all_fit : (spec : Spec) (schema : TableSchema) (entries : List Entry) → AllByRecursion IsEntry entries → AllByRecursion (Fits (entry_shape (plan_shapes (spec_plans spec schema)))) (map (datum_of_entry spec schema) entries)
+all_fit : (spec : Spec) (schema : TableSchema) (entries : List Entry) → AllByRecursion IsEntry entries
+    → AllByRecursion (Fits (entry_shape (plan_shapes (spec_plans spec schema)))) (map (datum_of_entry spec schema) entries)
 all_fit spec schema [] h = tt
 all_fit spec schema (entry ∷ entries) (first, others) = (entry_fits spec schema entry first, all_fit spec schema entries others)
 
-pub entries_fit : (spec : Spec) (schema : TableSchema) (entries : List Entry) → AllByRecursion IsEntry entries → AllByRecursion (Fits (shape (entry_types spec schema))) (map (datum_of_entry spec schema) entries)
+pub entries_fit : (spec : Spec) (schema : TableSchema) (entries : List Entry) → AllByRecursion IsEntry entries
+    → AllByRecursion (Fits (shape (entry_types spec schema))) (map (datum_of_entry spec schema) entries)
 entries_fit spec schema entries h = subst (λ (s : Shape). AllByRecursion (Fits s) (map (datum_of_entry spec schema) entries)) (sym (entry_shape_is (spec_plans spec schema)) ∙ ap shape (entry_types_is spec schema)) (all_fit spec schema entries h)

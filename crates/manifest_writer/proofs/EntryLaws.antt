@@ -10,14 +10,14 @@ use Rattle.std.proofs.lemmas.Bool.Decides.{nat_tests}
 use Rattle.plain_types.specs.Steps.{◌>>=◌, or_fault, fault_if, fault_as, by_option}
 use Rattle.row_values.specs.declared.schema.TableSchema.{TableSchema}
 use Rattle.row_values.specs.declared.partition.Spec.{Spec}
-use Rattle.column_bounds.specs.declared.stats.ColumnStats.{ColumnStats}
+use Rattle.kind_values.specs.declared.stats.ColumnStats.{ColumnStats}
 use Rattle.avro_binary.specs.declared.datum.Datum.{Datum, out-Datum}
 use Rattle.avro_binary.specs.declared.datum.Datum.TheVariants as datum
 use Rattle.avro_binary.specs.declared.schema.Schema.{Schema}
-use Rattle.avro_binary.proofs.SchemaTexts.{schema_read}
+use Rattle.avro_binary.proofs.CallerLemmas.{schema_read}
 use Rattle.avro_container.specs.declared.container.Container.{Container}
 use Rattle.avro_container.specs.Container.{container_of}
-use Rattle.avro_container.proofs.TextLaws.{text_read_again}
+use Rattle.avro_container.proofs.CallerLemmas.{text_read_again}
 use Rattle.avro_rows.specs.Rows.{values_of}
 use Rattle.avro_rows.specs.Sources.{fields_of}
 use Rattle.manifest_files.specs.declared.entry.Content.{Content}
@@ -37,7 +37,7 @@ use Rattle.manifest_files.specs.Needed.{needed_text, needed_count}
 use Rattle.manifest_files.specs.Places.{entry_places}
 use Rattle.manifest_files.specs.Sound.{are_parts, rises, are_stats, is_entry}
 use Rattle.manifest_files.specs.Statistics.{known_columns, are_pairs, has_twice, tells, stats_from}
-use Rattle.manifest_files.proofs.StatisticsLaws.{known_rising}
+use Rattle.manifest_files.proofs.CallerLemmas.{known_rising}
 use Rattle.manifest_writer.specs.declared.fact.Fact.{Fact}
 use Rattle.manifest_writer.specs.declared.fact.Fact.TheVariants as fact
 use Rattle.manifest_writer.specs.EntryTypes.{entry_types}
@@ -76,12 +76,16 @@ numbers_by b row entry = record { snapshot = entry.snapshot; seq = cond b row.se
 abbrev raw_by : ℕ → Option ℤ → Option ℤ → Option ℤ → RawNumbers
 raw_by s snapshot seq file_seq = record { status = s; snapshot = snapshot; seq = seq; file_seq = file_seq }
 
-numbers_so : (row : ManifestRow) (entry : Entry) (b : Bool) → nat_eq entry.status 1 ≡ b → numbered row (raw_by entry.status (Some entry.snapshot) (cond b None (Some entry.seq)) (cond b None (Some entry.file_seq))) ≡ Ok (numbers_by b row entry)
+numbers_so : (row : ManifestRow) (entry : Entry) (b : Bool) → nat_eq entry.status 1 ≡ b
+    → numbered row (raw_by entry.status (Some entry.snapshot) (cond b None (Some entry.seq))
+    (cond b None (Some entry.file_seq))) ≡ Ok (numbers_by b row entry)
 unfolding kept
 numbers_so row entry true e = ap (λ (b : Bool). cond b (let r : Result Numbers ManifestFault = Ok (numbers_by true row entry) in r) (kept (raw_by entry.status (Some entry.snapshot) None None))) e
 numbers_so row entry false e = ap (λ (b : Bool). cond b (let r : Result Numbers ManifestFault = Ok (Rattle.manifest_files.specs.Inheritance.inherited row (raw_by entry.status (Some entry.snapshot) (Some entry.seq) (Some entry.file_seq))) in r) (kept (raw_by entry.status (Some entry.snapshot) (Some entry.seq) (Some entry.file_seq)))) e
 
-numbers_from : (row : ManifestRow) (entry : Entry) (a b c : Option ℤ) → a ≡ Some entry.snapshot → b ≡ own_number entry.status entry.seq → c ≡ own_number entry.status entry.file_seq → numbered row (raw_by entry.status a b c) ≡ Ok (numbers_by (nat_eq entry.status 1) row entry)
+numbers_from : (row : ManifestRow) (entry : Entry) (a b c : Option ℤ) → a ≡ Some entry.snapshot
+    → b ≡ own_number entry.status entry.seq → c ≡ own_number entry.status entry.file_seq
+    → numbered row (raw_by entry.status a b c) ≡ Ok (numbers_by (nat_eq entry.status 1) row entry)
 numbers_from row entry a b c ha hb hc =
     ap (λ (x : Option ℤ). numbered row (raw_by entry.status x b c)) ha ∙ ap (λ (x : Option ℤ). numbered row (raw_by entry.status (Some entry.snapshot) x c)) hb ∙ ap (λ (x : Option ℤ). numbered row (raw_by entry.status (Some entry.snapshot) (own_number entry.status entry.seq) x)) hc
     ∙ numbers_so row entry (nat_eq entry.status 1) refl
@@ -97,7 +101,8 @@ count_read : (id : ℤ) (n : ℕ) (b : Bool) → nat_lt n (2 ^ 63) ≡ b → b �
 count_read id n true e h = refl
 count_read id n false e h = absurd cc
 
-count_again : (id : ℤ) (n : ℕ) → nat_lt n (2 ^ 63) ≡ true → or_fault (fault.Kind id) (option_and_then natural_of (option_and_then long_in (present_in (datum.Long (count_number n))))) ≡ Ok n
+count_again : (id : ℤ) (n : ℕ) → nat_lt n (2 ^ 63) ≡ true → or_fault (fault.Kind id)
+    (option_and_then natural_of (option_and_then long_in (present_in (datum.Long (count_number n))))) ≡ Ok n
 count_again id n h = ap (λ (o : Option ℤ). or_fault (fault.Kind id) (option_and_then natural_of o)) (long_again (count_number n)) ∙ count_read id n (nat_lt n (2 ^ 63)) refl h
 
 ids_again : (earlier ids : List ℤ) → ids_from earlier (map id_datum ids) ≡ Ok (earlier ++ ids)
@@ -123,20 +128,25 @@ found_parts spec schema = placed schema.columns 0 spec.fields
 abbrev parts_of : Entry → FileParts
 parts_of entry = record { content = entry.content; path = entry.path; is_avro = true; partition = entry.partition; count = entry.count; size = entry.size; equality_ids = entry.equality_ids; referenced = entry.referenced }
 
-same_parts : (entry : Entry) (referenced : Option (List ℕ)) → referenced ≡ entry.referenced → (let r : Result FileParts ManifestFault = Ok (record { content = entry.content; path = entry.path; is_avro = true; partition = entry.partition; count = entry.count; size = entry.size; equality_ids = entry.equality_ids; referenced = referenced }) in r) ≡ Ok (parts_of entry)
+same_parts : (entry : Entry) (referenced : Option (List ℕ)) → referenced ≡ entry.referenced
+    → (let r : Result FileParts ManifestFault = Ok (record { content = entry.content; path = entry.path; is_avro = true; partition = entry.partition; count = entry.count; size = entry.size; equality_ids = entry.equality_ids; referenced = referenced }) in r) ≡ Ok (parts_of entry)
 same_parts entry referenced h = rw h refl
 
-partition_again : (spec : Spec) (schema : TableSchema) (entry : Entry) → are_kinds schema.columns ≡ true → are_parts schema.columns spec.fields entry.partition ≡ true → partition_at (file_found (found_parts spec schema)) (file_values spec schema entry) ≡ Ok entry.partition
+partition_again : (spec : Spec) (schema : TableSchema) (entry : Entry) → are_kinds schema.columns ≡ true
+    → are_parts schema.columns spec.fields entry.partition ≡ true
+    → partition_at (file_found (found_parts spec schema)) (file_values spec schema entry) ≡ Ok entry.partition
 unfolding partition_at
 partition_again spec schema entry kinds h =
     let values : List Datum = part_datums schema.columns spec.fields entry.partition in
     goes (or_fault (fault.Kind (pos 102)) (present_in (datum.Record values))) _ (datum.Record values) _ (ap (or_fault (fault.Kind (pos 102))) (record_there values))
     (ap (λ (xs : List Datum). part_values xs [] (found_parts spec schema)) (values_is values) ∙ parts_again schema.columns values [] 0 [] spec.fields entry.partition refl refl (kinds_sound schema.columns spec.fields kinds) h)
 
-map_whole : (id : ℤ) (f : Fact) (place : ℕ) (stats : List ColumnStats) (items : List Datum) → items ≡ pairs_of f stats → fault_if (fault.Kind id) (not (are_pairs (pair_places place) items)) ≡ Ok tt
+map_whole : (id : ℤ) (f : Fact) (place : ℕ) (stats : List ColumnStats) (items : List Datum) → items ≡ pairs_of f stats
+    → fault_if (fault.Kind id) (not (are_pairs (pair_places place) items)) ≡ Ok tt
 map_whole id f place stats items is = ap (λ (xs : List Datum). fault_if (fault.Kind id) (not (are_pairs (pair_places place) xs))) is ∙ ap (λ (b : Bool). fault_if (fault.Kind id) (not b)) (pairs_are f place stats)
 
-map_once : (id : ℤ) (f : Fact) (place : ℕ) (stats : List ColumnStats) (items : List Datum) → rises stats ≡ true → items ≡ pairs_of f stats → fault_if (fault.Twice id) (has_twice (pair_places place) items) ≡ Ok tt
+map_once : (id : ℤ) (f : Fact) (place : ℕ) (stats : List ColumnStats) (items : List Datum) → rises stats ≡ true
+    → items ≡ pairs_of f stats → fault_if (fault.Twice id) (has_twice (pair_places place) items) ≡ Ok tt
 map_once id f place stats items rise is = ap (λ (xs : List Datum). fault_if (fault.Twice id) (has_twice (pair_places place) xs)) is ∙ ap (fault_if (fault.Twice id)) (keys_once f place stats rise)
 
 maps_whole : (spec : Spec) (schema : TableSchema) (entry : Entry) → whole_maps (file_found (found_parts spec schema)) (file_values spec schema entry) ≡ Ok tt
@@ -150,7 +160,10 @@ maps_whole spec schema entry =
     (goes (whole_map (pos 125) places.lower values) _ tt _ (map_whole (pos 125) fact.Lower 8 stats _ (map_items (pairs_of fact.Lower stats)))
     (map_whole (pos 128) fact.Upper 9 stats _ (map_items (pairs_of fact.Upper stats)))))
 
-file_again : (spec : Spec) (schema : TableSchema) (entry : Entry) → HasFile entry → are_kinds schema.columns ≡ true → are_parts schema.columns spec.fields entry.partition ≡ true → nat_lt entry.count (2 ^ 63) ≡ true → nat_lt entry.size (2 ^ 63) ≡ true → file_parts (file_found (found_parts spec schema)) (file_values spec schema entry) ≡ Ok (parts_of entry)
+file_again : (spec : Spec) (schema : TableSchema) (entry : Entry) → HasFile entry → are_kinds schema.columns ≡ true
+    → are_parts schema.columns spec.fields entry.partition ≡ true → nat_lt entry.count (2 ^ 63) ≡ true
+    → nat_lt entry.size (2 ^ 63) ≡ true → file_parts (file_found (found_parts spec schema))
+    (file_values spec schema entry) ≡ Ok (parts_of entry)
 unfolding file_parts
 file_again spec schema entry file kinds parts count size =
     let places = file_found (found_parts spec schema) in
@@ -171,7 +184,8 @@ live_avro : (b : Bool) (f : ManifestFault) → fault_if f (b && not true) ≡ Ok
 live_avro true f = refl
 live_avro false f = refl
 
-entry_allowed : (spec : Spec) (schema : TableSchema) (entry : Entry) → rises entry.stats.columns ≡ true → allowed entry.status (file_found (found_parts spec schema)) (parts_of entry) (file_values spec schema entry) ≡ Ok tt
+entry_allowed : (spec : Spec) (schema : TableSchema) (entry : Entry) → rises entry.stats.columns ≡ true
+    → allowed entry.status (file_found (found_parts spec schema)) (parts_of entry) (file_values spec schema entry) ≡ Ok tt
 unfolding allowed
 entry_allowed spec schema entry rise =
     let stats : List ColumnStats = entry.stats.columns in
@@ -183,7 +197,8 @@ entry_allowed spec schema entry rise =
     (goes (single_keys (pos 125) places.lower values) _ tt _ (map_once (pos 125) fact.Lower 8 stats _ rise (map_items (pairs_of fact.Lower stats)))
     (map_once (pos 128) fact.Upper 9 stats _ rise (map_items (pairs_of fact.Upper stats))))))
 
-has_facts : (spec : Spec) (schema : TableSchema) (entry : Entry) → rises entry.stats.columns ≡ true → HasFacts (file_found (found_parts spec schema)) (file_values spec schema entry) entry.stats.columns
+has_facts : (spec : Spec) (schema : TableSchema) (entry : Entry) → rises entry.stats.columns ≡ true
+    → HasFacts (file_found (found_parts spec schema)) (file_values spec schema entry) entry.stats.columns
 has_facts spec schema entry rise =
     let stats : List ColumnStats = entry.stats.columns in
     record {
@@ -193,14 +208,20 @@ has_facts spec schema entry rise =
       upper = λ id. under_there fact.Upper 9 id stats _ rise (map_items (pairs_of fact.Upper stats));
     }
 
-same_entry_by : (row : ManifestRow) (entry : Entry) (b : Bool) (id : ℤ) (stats : List ColumnStats) → id ≡ entry.spec → stats ≡ entry.stats.columns → (let r : Result Entry ManifestFault = Ok (whole_entry entry.status (numbers_by b row entry) id (parts_of entry) (record { columns = stats })) in r) ≡ Ok (cond b (record entry { seq = row.sequence_number; file_seq = row.sequence_number }) entry)
+same_entry_by : (row : ManifestRow) (entry : Entry) (b : Bool) (id : ℤ) (stats : List ColumnStats) → id ≡ entry.spec
+    → stats ≡ entry.stats.columns
+    → (let r : Result Entry ManifestFault = Ok (whole_entry entry.status (numbers_by b row entry) id (parts_of entry)
+    (record { columns = stats })) in r) ≡ Ok (cond b (record entry { seq = row.sequence_number; file_seq = row.sequence_number }) entry)
 same_entry_by row entry true id stats h k = rw (h, k) refl
 same_entry_by row entry false id stats h k = rw (h, k) refl
 
 same_id : (a b : ℤ) → int_eq a b ≡ true → b ≡ a
 same_id a b h = grind (arith, ints, nat_tests)
 
-entry_again : (row : ManifestRow) (spec : Spec) (schema : TableSchema) (entry : Entry) → IsEntry entry → are_kinds schema.columns ≡ true → is_written spec schema entry ≡ true → entry_of (entry_found (found_parts spec schema)) row spec.id (known_columns schema.columns) (datum_of_entry spec schema entry) ≡ Ok (as_read row entry)
+entry_again : (row : ManifestRow) (spec : Spec) (schema : TableSchema) (entry : Entry) → IsEntry entry
+    → are_kinds schema.columns ≡ true → is_written spec schema entry ≡ true
+    → entry_of (entry_found (found_parts spec schema)) row spec.id (known_columns schema.columns)
+    (datum_of_entry spec schema entry) ≡ Ok (as_read row entry)
 unfolding entry_of
 entry_again row spec schema entry (numbers, file) kinds h =
     let counts = second (is_entry spec schema entry) _ h in
@@ -221,7 +242,9 @@ entry_again row spec schema entry (numbers, file) kinds h =
     (same_entry_by row entry (nat_eq entry.status 1) spec.id _ (same_id entry.spec spec.id (first (int_eq entry.spec spec.id) _ of_spec)) (ap (λ (xs : List Datum). stats_from places.file xs [] (known_columns schema.columns)) (values_is (file_values spec schema entry))
     ∙ stats_again places.file (file_values spec schema entry) (known_columns schema.columns) entry.stats.columns (has_facts spec schema entry rise) (known_kinds schema.columns kinds) (known_rising schema.columns) rise (second (rises entry.stats.columns) (list_all tells entry.stats.columns) stats) (second (nat_lt entry.size (2 ^ 63)) _ sizes)))))))
 
-entries_again : (row : ManifestRow) (spec : Spec) (schema : TableSchema) (earlier entries : List Entry) → AllByRecursion IsEntry entries → are_kinds schema.columns ≡ true → list_all (is_written spec schema) entries ≡ true → entries_from (entry_found (found_parts spec schema)) row spec.id (known_columns schema.columns) earlier (map (datum_of_entry spec schema) entries) ≡ Ok (earlier ++ map (as_read row) entries)
+entries_again : (row : ManifestRow) (spec : Spec) (schema : TableSchema) (earlier entries : List Entry)
+    → AllByRecursion IsEntry entries → are_kinds schema.columns ≡ true → list_all (is_written spec schema) entries ≡ true
+    → entries_from (entry_found (found_parts spec schema)) row spec.id (known_columns schema.columns) earlier (map (datum_of_entry spec schema) entries) ≡ Ok (earlier ++ map (as_read row) entries)
 unfolding entries_from
 entries_again row spec schema earlier [] fits kinds h = ap (λ (xs : List Entry). (let r : Result (List Entry) ManifestFault = Ok xs in r)) (sym (append-nil earlier))
 entries_again row spec schema earlier (entry ∷ entries) (fits, others) kinds h =
@@ -234,10 +257,13 @@ entries_again row spec schema earlier (entry ∷ entries) (fits, others) kinds h
 abbrev file : List Entry → Spec → TableSchema → Container
 file entries spec schema = record { schema = entry_types spec schema; meta = manifest_meta entries spec schema; datums = map (datum_of_entry spec schema) entries }
 
-places_found : (spec : Spec) (schema : TableSchema) → IsWritableSpec spec schema → entry_places schema.columns spec.fields (fields_of (entry_types spec schema)) ≡ Ok (entry_found (found_parts spec schema))
+places_found : (spec : Spec) (schema : TableSchema) → IsWritableSpec spec schema
+    → entry_places schema.columns spec.fields (fields_of (entry_types spec schema)) ≡ Ok (entry_found (found_parts spec schema))
 places_found spec schema writable = ap (λ (s : Schema). entry_places schema.columns spec.fields (fields_of s)) (sym (entry_types_is spec schema)) ∙ entry_places_is schema.columns spec.fields (spec_plans spec schema) (found_parts spec schema) (all_found schema.columns (are_names spec.fields) spec.fields writable.apart)
 
-pub manifest_again : (entries : List Entry) (spec : Spec) (schema : TableSchema) (row : ManifestRow) → AllByRecursion IsEntry entries → CanBeWritten entries spec schema → length (manifest_text entries spec schema) < 2 ^ 63 → entries_of (manifest_text entries spec schema) row spec schema ≡ Ok (map (as_read row) entries)
+pub manifest_again : (entries : List Entry) (spec : Spec) (schema : TableSchema) (row : ManifestRow)
+    → AllByRecursion IsEntry entries → CanBeWritten entries spec schema → length (manifest_text entries spec schema) < 2 ^ 63
+    → entries_of (manifest_text entries spec schema) row spec schema ≡ Ok (map (as_read row) entries)
 unfolding entries_of
 manifest_again entries spec schema row fits can short =
     let read : container_of (manifest_text entries spec schema) ≡ Ok (file entries spec schema) = text_read_again (file entries spec schema) (entries_fit spec schema entries fits) (are_meta entries spec schema) (schema_read (entry_types spec schema) (entry_has_text spec schema can.kinds can.fields)) (entry_takes_bytes spec schema) (entry_items_take_bytes spec schema) short in

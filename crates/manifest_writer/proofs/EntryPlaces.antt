@@ -31,7 +31,9 @@ counts_in key value = more_plans key (codes "key") int_plan (more_plans value (c
 abbrev bounds_in : ℤ → ℤ → Plans
 bounds_in key value = more_plans key (codes "key") int_plan (more_plans value (codes "value") bytes_plan no_plans)
 
-files_found : (columns : List Column) (parts : List PartField) (ps : Plans) (found : List PartPlace) → part_places columns (types_of ps) [] parts ≡ Ok found → file_places columns parts (types_of (file_plans ps)) ≡ Ok (file_found found)
+files_found : (columns : List Column) (parts : List PartField) (ps : Plans) (found : List PartPlace)
+    → part_places columns (types_of ps) [] parts ≡ Ok found
+    → file_places columns parts (types_of (file_plans ps)) ≡ Ok (file_found found)
 unfolding file_places field_from
 files_found columns parts ps found h =
     let fields : List Field = types_of (file_plans ps) in
@@ -54,7 +56,9 @@ files_found columns parts ps found h =
     (goes (optional_items type.Int (pos 135) fields) (λ ids. optional type.Text (pos 143) fields >>= λ referenced. Ok (file_with found None ids referenced)) (Some 10) (Ok (file_found found)) (optional_items_is type.Int (pos 135) fields (codes "equality_ids") 10 (pos 136) int_plan refl refl)
     (goes (optional type.Text (pos 143) fields) (λ referenced. Ok (file_with found None (Some 10) referenced)) (Some 11) (Ok (file_found found)) (optional_is type.Text (pos 143) fields (codes "referenced_data_file") 11 (optional_plan text_plan) refl refl) refl)))))))))))))
 
-entries_found : (columns : List Column) (parts : List PartField) (ps : Plans) (found : List PartPlace) → part_places columns (types_of ps) [] parts ≡ Ok found → entry_places columns parts (types_of (entry_plans ps)) ≡ Ok (entry_found found)
+entries_found : (columns : List Column) (parts : List PartField) (ps : Plans) (found : List PartPlace)
+    → part_places columns (types_of ps) [] parts ≡ Ok found
+    → entry_places columns parts (types_of (entry_plans ps)) ≡ Ok (entry_found found)
 unfolding entry_places field_from
 entries_found columns parts ps found h =
     let fields : List Field = types_of (entry_plans ps) in
@@ -65,5 +69,7 @@ entries_found columns parts ps found h =
     (goes (needed type.Record (pos 2) fields) _ 4 _ (needed_is type.Record (pos 2) fields (codes "data_file") 4 (record_plan (codes "r2") (file_plans ps)) refl refl)
     (goes (file_places columns parts (fields_under (pos 2) fields)) _ (file_found found) _ (ap (file_places columns parts) (fields_is (record_plan (codes "r2") (file_plans ps))) ∙ files_found columns parts ps found h) refl)))))
 
-pub entry_places_is : (columns : List Column) (parts : List PartField) (ps : Plans) (found : List PartPlace) → part_places columns (types_of ps) [] parts ≡ Ok found → entry_places columns parts (fields_of (type_of (entry_plan ps))) ≡ Ok (entry_found found)
+pub entry_places_is : (columns : List Column) (parts : List PartField) (ps : Plans) (found : List PartPlace)
+    → part_places columns (types_of ps) [] parts ≡ Ok found
+    → entry_places columns parts (fields_of (type_of (entry_plan ps))) ≡ Ok (entry_found found)
 entry_places_is columns parts ps found h = ap (λ x. entry_places columns parts (fields_level x)) (plan_out (entry_plan ps)) ∙ entries_found columns parts ps found h

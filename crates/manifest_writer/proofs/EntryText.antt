@@ -13,13 +13,13 @@ use Rattle.row_values.specs.declared.schema.Column.{Column}
 use Rattle.row_values.specs.declared.schema.TableSchema.{TableSchema}
 use Rattle.row_values.specs.declared.partition.PartField.{PartField}
 use Rattle.row_values.specs.declared.partition.Spec.{Spec}
-use Rattle.column_bounds.specs.Bounds.{is_kind}
+use Rattle.kind_values.specs.Bounds.{is_kind}
 use Rattle.avro_binary.specs.Naming.{has_begun}
 use Rattle.avro_binary.specs.Placed.{Placing, placed, place_level, place_field}
 use Rattle.avro_binary.specs.SchemaOnce.{Begins, has_text, is_id, each_once, one_name, once_level, once_field_level}
 use Rattle.avro_binary.specs.Shape.{shape}
 use Rattle.avro_binary.specs.Spelling.{takes_bytes, items_take_bytes, all_items_take_bytes}
-use Rattle.avro_binary.proofs.JsonTexts.{are_ascii}
+use Rattle.avro_binary.proofs.CallerLemmas.{are_ascii}
 use Rattle.manifest_files.specs.PartitionKinds.{kind_of_field}
 use Rattle.manifest_writer.specs.EntryTypes.{entry_types}
 use Rattle.manifest_writer.specs.PartNames.{is_letter, is_name_byte, is_name, has_name, are_names, id_name, part_name}
@@ -76,7 +76,8 @@ id_ascii (negsuc n) h =
     let small : n < 2 ^ 63 = small_by n (nat_le n (2 ^ 31 - 1)) (negsuc n) refl h in
     decimal_ascii (suc n) (omega arith)
 
-part_name_ascii : (keeps : Bool) (part : PartField) → (keeps ≡ true → is_name part.name ≡ true) → is_id (Some part.field) ≡ true → are_ascii (part_name keeps part) ≡ true
+part_name_ascii : (keeps : Bool) (part : PartField) → (keeps ≡ true → is_name part.name ≡ true) → is_id (Some part.field) ≡ true
+    → are_ascii (part_name keeps part) ≡ true
 part_name_ascii true part h id = name_ascii part.name (h refl)
 part_name_ascii false part h id = id_ascii part.field id
 
@@ -119,7 +120,8 @@ part_plain (Some k) h = kind_plain k h
 abbrev are_ids : List PartField → Bool
 are_ids parts = list_all (λ part. is_id (Some part.field)) parts
 
-parts_plain : (columns : List Column) (keeps : Bool) (parts : List PartField) → (keeps ≡ true → are_names parts ≡ true) → are_ids parts ≡ true → are_sound columns parts ≡ true → plain_fields (part_plans columns keeps parts) ≡ true
+parts_plain : (columns : List Column) (keeps : Bool) (parts : List PartField) → (keeps ≡ true → are_names parts ≡ true)
+    → are_ids parts ≡ true → are_sound columns parts ≡ true → plain_fields (part_plans columns keeps parts) ≡ true
 unfolding are_names
 parts_plain columns keeps [] names ids sound = refl
 parts_plain columns keeps (part ∷ parts) names ids sound =
@@ -184,10 +186,12 @@ not_false false h = refl
 abbrev NamedSo : Option Kind → Names → Names → Type 0
 NamedSo k begun rest = (named (part_plan k) (base ++ begun) ≡ Some (base ++ (begun ++ type_names k))) × (are_new (begun ++ type_names k) rest ≡ true)
 
-plain_so : (begun rest : Names) → are_new begun rest ≡ true → ((let o : Option Names = Some (base ++ begun) in o) ≡ Some (base ++ (begun ++ []))) × (are_new (begun ++ []) rest ≡ true)
+plain_so : (begun rest : Names) → are_new begun rest ≡ true
+    → ((let o : Option Names = Some (base ++ begun) in o) ≡ Some (base ++ (begun ++ []))) × (are_new (begun ++ []) rest ≡ true)
 plain_so begun rest h = (ap (λ (xs : Names). (let o : Option Names = Some (base ++ xs) in o)) (sym (append-nil begun)), ap (λ (xs : Names). are_new xs rest) (append-nil begun) ∙ h)
 
-decimal_so : (precision scale : ℕ) (begun rest : Names) → are_new begun (decimal_name precision scale ∷ rest) ≡ true → NamedSo (Some (kind.Decimal precision scale)) begun rest
+decimal_so : (precision scale : ℕ) (begun rest : Names) → are_new begun (decimal_name precision scale ∷ rest) ≡ true
+    → NamedSo (Some (kind.Decimal precision scale)) begun rest
 unfolding are_new has_begun
 decimal_so precision scale begun rest h =
     let name : List ℕ = decimal_name precision scale in
@@ -207,7 +211,9 @@ part_so (Some (kind.Decimal precision scale)) begun rest h = decimal_so precisio
 part_so (Some kind.Text) begun rest h = plain_so begun rest h
 part_so (Some kind.Bytes) begun rest h = plain_so begun rest h
 
-parts_named : (columns : List Column) (keeps : Bool) (parts : List PartField) (begun : Names) → are_new begun (names_in columns parts) ≡ true → named_each (part_plans columns keeps parts) (base ++ begun) ≡ Some (base ++ (begun ++ names_in columns parts))
+parts_named : (columns : List Column) (keeps : Bool) (parts : List PartField) (begun : Names)
+    → are_new begun (names_in columns parts) ≡ true → named_each (part_plans columns keeps parts)
+    (base ++ begun) ≡ Some (base ++ (begun ++ names_in columns parts))
 parts_named columns keeps [] begun h = ap (λ (xs : Names). (let o : Option Names = Some (base ++ xs) in o)) (sym (append-nil begun))
 parts_named columns keeps (part ∷ parts) begun h =
     let k : Option Kind = kind_of_field columns part in
@@ -221,10 +227,12 @@ counts_of name key value = optional_plan (pairs_of_plan name key value long_plan
 abbrev bounds_of : List ℕ → ℤ → ℤ → Plan
 bounds_of name key value = optional_plan (pairs_of_plan name key value bytes_plan)
 
-counts_named : (name : List ℕ) (key value : ℤ) (begun : Names) → has_begun name begun ≡ false → named (counts_of name key value) begun ≡ Some (begun ++ name ∷ [])
+counts_named : (name : List ℕ) (key value : ℤ) (begun : Names) → has_begun name begun ≡ false
+    → named (counts_of name key value) begun ≡ Some (begun ++ name ∷ [])
 counts_named name key value begun h = ap (λ (o : Option Names). option_and_then (each_once []) (option_and_then (named_each (more_plans key (codes "key") int_plan (more_plans value (codes "value") long_plan no_plans))) o)) (one_is name begun h)
 
-bounds_named : (name : List ℕ) (key value : ℤ) (begun : Names) → has_begun name begun ≡ false → named (bounds_of name key value) begun ≡ Some (begun ++ name ∷ [])
+bounds_named : (name : List ℕ) (key value : ℤ) (begun : Names) → has_begun name begun ≡ false
+    → named (bounds_of name key value) begun ≡ Some (begun ++ name ∷ [])
 bounds_named name key value begun h = ap (λ (o : Option Names). option_and_then (each_once []) (option_and_then (named_each (more_plans key (codes "key") int_plan (more_plans value (codes "value") bytes_plan no_plans))) o)) (one_is name begun h)
 
 -- the fields behind the partition
@@ -243,7 +251,9 @@ value_plans = more_plans (pos 109) (codes "value_counts") (counts_of (codes "k11
 abbrev later_plans : Plans
 later_plans = more_plans (pos 103) (codes "record_count") long_plan (more_plans (pos 104) (codes "file_size_in_bytes") long_plan value_plans)
 
-later_named : (begun : Names) → has_begun (codes "k119_v120") begun ≡ false → has_begun (codes "k121_v122") begun ≡ false → has_begun (codes "k126_v127") begun ≡ false → has_begun (codes "k129_v130") begun ≡ false → is_some (named_each later_plans begun) ≡ true
+later_named : (begun : Names) → has_begun (codes "k119_v120") begun ≡ false → has_begun (codes "k121_v122") begun ≡ false
+    → has_begun (codes "k126_v127") begun ≡ false → has_begun (codes "k129_v130") begun ≡ false
+    → is_some (named_each later_plans begun) ≡ true
 unfolding has_begun
 later_named begun a b c d =
     let one : Names = begun ++ codes "k119_v120" ∷ [] in
@@ -260,14 +270,16 @@ later_named begun a b c d =
     ∙ ap (λ (o : Option Names). is_some (option_and_then (named_each upper_plans) o)) (bounds_named (codes "k126_v127") (pos 126) (pos 127) two c2)
     ∙ ap (λ (o : Option Names). is_some (option_and_then (named_each (more_plans (pos 135) (codes "equality_ids") (optional_plan (items_plan (pos 136) int_plan)) (more_plans (pos 143) (codes "referenced_data_file") (optional_plan text_plan) no_plans))) o)) (bounds_named (codes "k129_v130") (pos 129) (pos 130) three d3)
 
-after_parts : (columns : List Column) (parts : List PartField) (name : List ℕ) → has_begun name base ≡ false → IsOther name → has_begun name (base ++ names_in columns parts) ≡ false
+after_parts : (columns : List Column) (parts : List PartField) (name : List ℕ) → has_begun name base ≡ false → IsOther name
+    → has_begun name (base ++ names_in columns parts) ≡ false
 after_parts columns parts name h other = begun_append name base (names_in columns parts) h (no_other name columns parts other)
 
 whole_some : (o : Option Names) → is_some o ≡ true → is_some (option_and_then (named_each no_plans) o) ≡ true
 whole_some None h = h
 whole_some (Some xs) h = refl
 
-each_name_once : (columns : List Column) (keeps : Bool) (parts : List PartField) → are_new [] (names_in columns parts) ≡ true → is_some (named (entry_plan (part_plans columns keeps parts)) []) ≡ true
+each_name_once : (columns : List Column) (keeps : Bool) (parts : List PartField) → are_new [] (names_in columns parts) ≡ true
+    → is_some (named (entry_plan (part_plans columns keeps parts)) []) ≡ true
 unfolding has_begun
 each_name_once columns keeps parts h =
     whole_some (option_and_then (named_each later_plans) (named_each (part_plans columns keeps parts) base))
@@ -326,7 +338,8 @@ has_room ps h some = ap (λ (o : Option ℕ). is_some o) (plan_placed (entry_pla
 
 -- ---- the type
 
-plan_has_text : (ps : Plans) → plain_names (entry_plan ps) ≡ true → is_some (named (entry_plan ps) []) ≡ true → all_within ps 29 ≡ true → nodes_of ps ≤ 3000 → has_text (type_of (entry_plan ps)) ≡ true
+plan_has_text : (ps : Plans) → plain_names (entry_plan ps) ≡ true → is_some (named (entry_plan ps) []) ≡ true
+    → all_within ps 29 ≡ true → nodes_of ps ≤ 3000 → has_text (type_of (entry_plan ps)) ≡ true
 plan_has_text ps plain names deep some =
     ap (λ (f : Begins). is_some (f []) && is_some (placed (type_of (entry_plan ps)) 32 100000)) (plan_folds Begins Begins once_level once_field_level (entry_plan ps))
     ∙ ap (λ (o : Option Names). is_some o && is_some (placed (type_of (entry_plan ps)) 32 100000)) (named_is (entry_plan ps) [] plain) ∙ ap (λ (b : Bool). b && is_some (placed (type_of (entry_plan ps)) 32 100000)) names
@@ -335,7 +348,8 @@ plan_has_text ps plain names deep some =
 entry_plain : (ps : Plans) → plain_fields ps ≡ true → plain_names (entry_plan ps) ≡ true
 entry_plain ps h = ap (λ (b : Bool). b && true && true) h
 
-pub entry_has_text : (spec : Spec) (schema : TableSchema) → are_kinds schema.columns ≡ true → IsWritableSpec spec schema → has_text (entry_types spec schema) ≡ true
+pub entry_has_text : (spec : Spec) (schema : TableSchema) → are_kinds schema.columns ≡ true → IsWritableSpec spec schema
+    → has_text (entry_types spec schema) ≡ true
 entry_has_text spec schema kinds writable =
     let keeps : Bool = are_names spec.fields in
     let ps : Plans = part_plans schema.columns keeps spec.fields in

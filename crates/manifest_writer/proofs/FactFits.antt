@@ -4,8 +4,8 @@ use Rattle.std.specs.Prelude.{◌-◌, if◌then◌else◌}
 use Rattle.std.specs.List.{AllByRecursion}
 use Rattle.std.proofs.lemmas.Bool.{ltb-true}
 use Rattle.row_values.specs.declared.value.Value.{Value}
-use Rattle.column_bounds.specs.declared.stats.ColumnStats.{ColumnStats}
-use Rattle.column_bounds.specs.Bounds.{bytes_of}
+use Rattle.kind_values.specs.declared.stats.ColumnStats.{ColumnStats}
+use Rattle.kind_values.specs.Bounds.{bytes_of}
 use Rattle.avro_binary.specs.declared.datum.Datum.{Datum}
 use Rattle.avro_binary.specs.declared.datum.Datum.TheVariants as datum
 use Rattle.avro_binary.specs.Shape.{Shape, int_shape, long_shape, bytes_shape, record_shape, array_shape, no_shapes, more_shapes}
@@ -50,7 +50,9 @@ fact_fits fact.Upper facts = bound_fits facts.upper
 pair_fits : (s : Shape) (id : ℤ) (d : Datum) → IsSignedOf 31 id → Fits s d → Fits (pair_shape s) (pair id d)
 pair_fits s id d range fits = record_fits _ _ (more_fields _ _ _ _ (int_fits id range) (more_fields _ _ _ _ fits no_field))
 
-pairs_by : (s : Shape) (id : ℤ) (d : Option Datum) (others : List Datum) → IsSignedOf 31 id → FitsIfThere s d → AllByRecursion (Fits (pair_shape s)) others → AllByRecursion (Fits (pair_shape s)) (Rattle.plain_types.specs.Steps.by_option d (λ x. pair id x ∷ []) [] ++ others)
+pairs_by : (s : Shape) (id : ℤ) (d : Option Datum) (others : List Datum) → IsSignedOf 31 id → FitsIfThere s d
+    → AllByRecursion (Fits (pair_shape s)) others → AllByRecursion (Fits (pair_shape s))
+    (Rattle.plain_types.specs.Steps.by_option d (λ x. pair id x ∷ []) [] ++ others)
 pairs_by s id None others range fits all = all
 pairs_by s id (Some d) others range fits all = (pair_fits s id d range fits, all)
 

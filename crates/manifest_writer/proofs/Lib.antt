@@ -1,21 +1,26 @@
-pub mod EntryFits
-pub mod EntryLaws
-pub mod EntryPlaces
-pub mod EntryText
-pub mod FactFits
-pub mod FactLaws
-pub mod FieldLaws
-pub mod KnownKinds
-pub mod ListFits
-pub mod ListLaws
-pub mod ListPlaces
-pub mod ManifestMetas
-pub mod PartFits
-pub mod PartLaws
-pub mod PartPlans
-pub mod PlanNames
-pub mod PlanRoom
-pub mod PlanTypes
-pub mod Plans
-pub mod Powers
-pub mod ValueLaws
+pub mod CallerLemmas
+mod ContainerFits
+mod EntriesAgain
+mod EntryFits
+mod EntryLaws
+mod EntryPlaces
+mod EntryText
+mod FactFits
+mod FactLaws
+mod FieldLaws
+mod Fitting
+mod KnownKinds
+mod ListFits
+mod ListLaws
+mod ListPlaces
+mod ManifestMetas
+mod PartFits
+mod PartLaws
+mod PartPlans
+mod PlanNames
+mod PlanRoom
+mod PlanTypes
+mod Plans
+mod Powers
+mod RowsAgain
+mod ValueLaws

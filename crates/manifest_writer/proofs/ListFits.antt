@@ -2,7 +2,7 @@
 use Rattle.std.proofs.Common.{◌≡◌, ℕ, List, [], ◌∷◌, map, pos, Bool, true, ◌&&◌, is_some, Option, refl, sym, ap, subst, ◌∙◌, arith}
 use Rattle.std.specs.Prelude.{codes}
 use Rattle.std.specs.List.{AllByRecursion}
-use Rattle.column_bounds.specs.declared.stats.Summary.{Summary}
+use Rattle.kind_values.specs.declared.stats.Summary.{Summary}
 use Rattle.avro_binary.specs.declared.datum.Datum.TheVariants as datum
 use Rattle.avro_binary.specs.SchemaOnce.{has_text, Begins, once, once_level, once_field_level}
 use Rattle.avro_binary.specs.Placed.{Placing, placed, place_each, place_level, place_field}

@@ -5,14 +5,14 @@ use Rattle.std.proofs.lemmas.Str.{is_utf8-from_IsUtf8}
 use Rattle.std.specs.List.{AllByRecursion, list_all}
 use Rattle.plain_types.specs.Steps.{◌>>=◌, or_fault, fault_if, fault_as}
 use Rattle.row_values.specs.declared.value.Value.{Value}
-use Rattle.column_bounds.specs.declared.stats.Summary.{Summary}
+use Rattle.kind_values.specs.declared.stats.Summary.{Summary}
 use Rattle.avro_binary.specs.declared.datum.Datum.{Datum, out-Datum}
 use Rattle.avro_binary.specs.declared.datum.Datum.TheVariants as datum
-use Rattle.avro_binary.proofs.SchemaTexts.{schema_read}
+use Rattle.avro_binary.proofs.CallerLemmas.{schema_read}
 use Rattle.avro_container.specs.declared.container.Container.{Container}
 use Rattle.avro_container.specs.Container.{container_of}
 use Rattle.avro_container.specs.ContainerText.{AreMeta}
-use Rattle.avro_container.proofs.TextLaws.{text_read_again}
+use Rattle.avro_container.proofs.CallerLemmas.{text_read_again}
 use Rattle.avro_rows.specs.Rows.{values_of}
 use Rattle.avro_rows.specs.Sources.{fields_of}
 use Rattle.manifest_files.specs.declared.manifest_fault.ManifestFault.{ManifestFault}
@@ -46,7 +46,8 @@ second false b h = absurd cc
 abbrev summary_values : Summary → List Datum
 summary_values s = datum.Boolean s.contains_null ∷ Rattle.manifest_writer.specs.Value.optional_bound s.lower ∷ Rattle.manifest_writer.specs.Value.optional_bound s.upper ∷ []
 
-same_summary : (s : Summary) (lower upper : Option Value) → lower ≡ s.lower → upper ≡ s.upper → (let r : Result Summary ManifestFault = Ok (record { contains_null = s.contains_null; lower = lower; upper = upper }) in r) ≡ Ok s
+same_summary : (s : Summary) (lower upper : Option Value) → lower ≡ s.lower → upper ≡ s.upper
+    → (let r : Result Summary ManifestFault = Ok (record { contains_null = s.contains_null; lower = lower; upper = upper }) in r) ≡ Ok s
 same_summary s lower upper a b = rw (a, b) refl
 
 summary_again : (s : Summary) → has_bounds s ≡ true → summary_of summaries (datum_of_summary s) ≡ Ok s
@@ -57,7 +58,8 @@ summary_again s h =
     ∙ goes (or_fault (fault.Kind (pos 509)) (option_and_then boolean_in (present_in (datum.Boolean s.contains_null)))) _ s.contains_null _ (ap (or_fault (fault.Kind (pos 509))) (boolean_again s.contains_null))
     (same_summary s _ _ (bound_again s.lower (first (is_bound s.lower) (is_bound s.upper) h)) (bound_again s.upper (second (is_bound s.lower) (is_bound s.upper) h))))
 
-summaries_again : (earlier all : List Summary) → list_all has_bounds all ≡ true → summaries_from summaries earlier (map datum_of_summary all) ≡ Ok (earlier ++ all)
+summaries_again : (earlier all : List Summary) → list_all has_bounds all ≡ true
+    → summaries_from summaries earlier (map datum_of_summary all) ≡ Ok (earlier ++ all)
 unfolding summaries_from
 summaries_again earlier [] h = ap (λ (xs : List Summary). (let r : Result (List Summary) ManifestFault = Ok xs in r)) (sym (append-nil earlier))
 summaries_again earlier (s ∷ all) h =
@@ -87,14 +89,18 @@ head_again row fits =
     (goes (needed_long (pos 516) 5 (values row)) _ row.min_sequence_number _ (ap (or_fault (fault.Kind (pos 516))) (long_again row.min_sequence_number))
     (goes (needed_long (pos 503) 6 (values row)) _ row.added_snapshot_id _ (ap (or_fault (fault.Kind (pos 503))) (long_again row.added_snapshot_id)) refl))))))
 
-same_row : (row : ManifestRow) (a b c d e f g : Option ℤ) → a ≡ row.manifest_length → b ≡ row.added_files_count → c ≡ row.existing_files_count → d ≡ row.deleted_files_count → e ≡ row.added_rows_count → f ≡ row.existing_rows_count → g ≡ row.deleted_rows_count
+same_row : (row : ManifestRow) (a b c d e f g : Option ℤ) → a ≡ row.manifest_length → b ≡ row.added_files_count
+    → c ≡ row.existing_files_count → d ≡ row.deleted_files_count → e ≡ row.added_rows_count → f ≡ row.existing_rows_count
+    → g ≡ row.deleted_rows_count
     → (let r : Result ManifestRow ManifestFault = Ok (record { manifest_path = row.manifest_path; manifest_length = a; partition_spec_id = row.partition_spec_id; content = row.content; sequence_number = row.sequence_number; min_sequence_number = row.min_sequence_number; added_snapshot_id = row.added_snapshot_id; added_files_count = b; existing_files_count = c; deleted_files_count = d; added_rows_count = e; existing_rows_count = f; deleted_rows_count = g; partitions = row.partitions }) in r) ≡ Ok row
 same_row row a b c d e f g ha hb hc hd he hf hg = rw (ha, hb, hc, hd, he, hf, hg) refl
 
 partitions_there : (row : ManifestRow) → items_at (values row) (Some 13) ≡ map datum_of_summary row.partitions
 partitions_there row = ap (λ (o : Option Datum). Rattle.plain_types.specs.Steps.by_option o (λ d. items_level (out-Datum d)) []) (array_there (map datum_of_summary row.partitions)) ∙ ap items_level (array_out (map datum_of_summary row.partitions))
 
-whole_again : (row : ManifestRow) → counts row ≡ true → (let r : Result ManifestRow ManifestFault = Ok (whole_row list_places (values row) (head_of row) row.partitions) in r) ≡ Ok row
+whole_again : (row : ManifestRow) → counts row ≡ true
+    → (let r : Result ManifestRow ManifestFault = Ok (whole_row list_places (values row)
+    (head_of row) row.partitions) in r) ≡ Ok row
 whole_again row h =
     let h2 = second (is_count row.added_files_count) _ h in
     let h3 = second (is_count row.existing_files_count) _ h2 in
@@ -111,7 +117,8 @@ row_again row fits listed =
     (goes (summaries_from summaries [] (items_at (values row) (Some 13))) _ row.partitions _ (ap (summaries_from summaries []) (partitions_there row) ∙ summaries_again [] row.partitions (second (counts row) (list_all has_bounds row.partitions) listed))
     (whole_again row (first (counts row) (list_all has_bounds row.partitions) listed)))
 
-rows_again : (earlier rows : List ManifestRow) → AllByRecursion IsRow rows → list_all is_listed rows ≡ true → rows_from list_places earlier (map datum_of_row rows) ≡ Ok (earlier ++ rows)
+rows_again : (earlier rows : List ManifestRow) → AllByRecursion IsRow rows → list_all is_listed rows ≡ true
+    → rows_from list_places earlier (map datum_of_row rows) ≡ Ok (earlier ++ rows)
 unfolding rows_from
 rows_again earlier [] fits h = ap (λ (xs : List ManifestRow). (let r : Result (List ManifestRow) ManifestFault = Ok xs in r)) (sym (append-nil earlier))
 rows_again earlier (row ∷ rows) (fits, others) h =
@@ -126,7 +133,8 @@ file rows = record { schema = list_types; meta = []; datums = map datum_of_row r
 pub no_meta : AreMeta []
 no_meta = record { texts = tt; distinct = tt; no_schema = tt; no_codec = tt }
 
-pub list_again : (rows : List ManifestRow) → AllByRecursion IsRow rows → list_all is_listed rows ≡ true → length (list_text rows) < 2 ^ 63 → rows_of_list (list_text rows) ≡ Ok rows
+pub list_again : (rows : List ManifestRow) → AllByRecursion IsRow rows → list_all is_listed rows ≡ true
+    → length (list_text rows) < 2 ^ 63 → rows_of_list (list_text rows) ≡ Ok rows
 unfolding rows_of_list
 list_again rows fits listed short =
     let read : container_of (list_text rows) ≡ Ok (file rows) = text_read_again (file rows) (rows_fit rows fits) no_meta (schema_read list_types list_has_text) list_takes_bytes list_items_take_bytes short in

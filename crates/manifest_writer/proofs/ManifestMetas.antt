@@ -5,7 +5,7 @@ use Rattle.std.specs.Str.{bytes_eq}
 use Rattle.std.proofs.lemmas.Bool.Decides.{nat_tests}
 use Rattle.row_values.specs.declared.schema.TableSchema.{TableSchema}
 use Rattle.row_values.specs.declared.partition.Spec.{Spec}
-use Rattle.avro_binary.proofs.JsonTexts.{is_text}
+use Rattle.avro_binary.proofs.CallerLemmas.{is_text}
 use Rattle.avro_container.specs.ContainerText.{AreMeta}
 use Rattle.manifest_files.specs.declared.entry.Entry.{Entry}
 use Rattle.manifest_writer.specs.ManifestMeta.{manifest_meta}

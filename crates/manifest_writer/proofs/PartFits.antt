@@ -9,8 +9,8 @@ use Rattle.row_values.specs.declared.value.Value.TheVariants as value
 use Rattle.row_values.specs.declared.schema.Column.{Column}
 use Rattle.row_values.specs.declared.partition.PartField.{PartField}
 use Rattle.row_values.specs.Rows.{is_value, is_day, is_instant}
-use Rattle.number_bytes.specs.BigEndian.{bytes_in, is_negative, size_of}
-use Rattle.number_bytes.proofs.Written.{digits_length}
+use Rattle.kind_values.specs.BigEndian.{bytes_in, is_negative, size_of}
+use Rattle.kind_values.proofs.CallerLemmas.{digits_length}
 use Rattle.avro_binary.specs.declared.datum.Datum.TheVariants as datum
 use Rattle.avro_binary.specs.Shape.{Shape, Shapes, int_shape, fixed_shape, shapes, level, field_level}
 use Rattle.avro_binary.specs.Spelling.{IsSignedOf, Fits, FitsFields}
@@ -66,7 +66,8 @@ value_fits kind.Text v h = absurd cc
 value_fits kind.Bytes (value.Bytes bytes) h = bytes_fits bytes
 value_fits kind.Bytes v h = absurd cc
 
-part_by : (k : Kind) (v : Value) (b : Bool) → is_value k v ≡ b → Fits (option_shape (plan_shape (kind_plan k))) (cond b (optional (Some (value_datum k v))) (optional None))
+part_by : (k : Kind) (v : Value) (b : Bool) → is_value k v ≡ b
+    → Fits (option_shape (plan_shape (kind_plan k))) (cond b (optional (Some (value_datum k v))) (optional None))
 part_by k v true h = some_fits (plan_shape (kind_plan k)) (value_datum k v) (value_fits k v h)
 part_by k v false h = none_fits (plan_shape (kind_plan k))
 
@@ -78,7 +79,8 @@ null_fits : (k : Option Kind) → Fits (plan_shape (part_plan k)) (optional None
 null_fits None = none_fits int_shape
 null_fits (Some k) = none_fits (plan_shape (kind_plan k))
 
-pub parts_fit : (columns : List Column) (keeps : Bool) (parts : List PartField) (vs : List Value) → FitsFields (plan_shapes (part_plans columns keeps parts)) (part_datums columns parts vs)
+pub parts_fit : (columns : List Column) (keeps : Bool) (parts : List PartField) (vs : List Value)
+    → FitsFields (plan_shapes (part_plans columns keeps parts)) (part_datums columns parts vs)
 unfolding part_datums
 parts_fit columns keeps [] vs = no_field
 parts_fit columns keeps (part ∷ parts) [] = more_fields _ _ _ _ (null_fits (kind_of_field columns part)) (parts_fit columns keeps parts [])

@@ -19,9 +19,9 @@ use Rattle.row_values.specs.declared.partition.PartField.{PartField}
 use Rattle.row_values.specs.declared.partition.Transform.{Transform}
 use Rattle.row_values.specs.declared.partition.Transform.TheVariants as transform
 use Rattle.row_values.specs.Rows.{is_between, has_digits, is_value, is_null}
-use Rattle.number_bytes.specs.BigEndian.{signed_of, is_negative, size_of, bytes_in}
-use Rattle.number_bytes.proofs.Written.{digits_length, enough, in_again}
-use Rattle.column_bounds.specs.Bounds.{is_kind}
+use Rattle.kind_values.specs.BigEndian.{signed_of, is_negative, size_of, bytes_in}
+use Rattle.kind_values.proofs.CallerLemmas.{digits_length, enough, in_again}
+use Rattle.kind_values.specs.Bounds.{is_kind}
 use Rattle.kind_values.specs.KindValues.{of_kind, is_decimal_size, decimal_of}
 use Rattle.avro_binary.specs.declared.datum.Datum.{Datum, out-Datum}
 use Rattle.avro_binary.specs.declared.datum.MapPair.{MapPair}
@@ -106,7 +106,8 @@ same_scale s scale h = grind (arith, nat_tests)
 abbrev amount : List ℕ → ℕ → Option Value
 amount bytes scale = Some (value.Decimal (signed_of bytes) scale)
 
-amount_again : (precision scale : ℕ) (n : ℤ) (s : ℕ) → precision ≤ 38 → has_digits precision n ≡ true → (s == scale) ≡ true → decimal_of scale (bytes_in (decimal_size precision) n) ≡ Some (value.Decimal n s)
+amount_again : (precision scale : ℕ) (n : ℤ) (s : ℕ) → precision ≤ 38 → has_digits precision n ≡ true → (s == scale) ≡ true
+    → decimal_of scale (bytes_in (decimal_size precision) n) ≡ Some (value.Decimal n s)
 amount_again precision scale n s few digits same =
     ap (λ (size : ℕ). cond (is_decimal_size size) (amount (bytes_in (decimal_size precision) n) scale) None) (digits_length (is_negative n) (decimal_size precision) (size_of n))
     ∙ ap (λ (b : Bool). cond b (amount (bytes_in (decimal_size precision) n) scale) None) (size_holds precision)
@@ -120,7 +121,8 @@ Reads k v d = (present_in (optional (Some d)) ≡ Some d) × (value_of k d ≡ S
 kept : (k : Kind) (v : Value) → is_value k v ≡ true → of_kind k v ≡ Some v
 kept k v h = ap (λ (b : Bool). (let o : Option Value = cond b (Some v) None in o)) h
 
-reads_by : (k : Kind) (v : Value) (d : Datum) (x : open_datum.Datum-F Datum MapPair) → out-Datum d ≡ x → present_in (optional (Some d)) ≡ Some d → content_of k x ≡ Some v → is_value k v ≡ true → Reads k v d
+reads_by : (k : Kind) (v : Value) (d : Datum) (x : open_datum.Datum-F Datum MapPair) → out-Datum d ≡ x
+    → present_in (optional (Some d)) ≡ Some d → content_of k x ≡ Some v → is_value k v ≡ true → Reads k v d
 reads_by k v d x out there content h = (there, ap (λ (y : open_datum.Datum-F Datum MapPair). option_and_then (of_kind k) (content_of k y)) out ∙ ap (option_and_then (of_kind k)) content ∙ kept k v h)
 
 value_read : (k : Kind) (v : Value) → is_kind k ≡ true → is_value k v ≡ true → Reads k v (value_datum k v)
@@ -170,7 +172,8 @@ null_is_none kind.Bytes = refl
 null_read : (id : ℤ) (k : Kind) → read_by id (Some k) (present_in (part_datum (Some k) value.Null)) ≡ Ok value.Null
 null_read id k = ap (λ (b : Bool). read_by id (Some k) (present_in (cond b (optional (Some datum.Null)) (optional None)))) (null_is_none k) ∙ ap (read_by id (Some k)) null_absent
 
-part_by : (id : ℤ) (k : Kind) (v : Value) (b : Bool) → is_null v ≡ b → is_kind k ≡ true → cond b true (is_value k v) ≡ true → read_by id (Some k) (present_in (part_datum (Some k) v)) ≡ Ok v
+part_by : (id : ℤ) (k : Kind) (v : Value) (b : Bool) → is_null v ≡ b → is_kind k ≡ true → cond b true (is_value k v) ≡ true
+    → read_by id (Some k) (present_in (part_datum (Some k) v)) ≡ Ok v
 part_by id k v false e sound h = some_read id k v sound h
 part_by id k value.Null true e sound h = null_read id k
 part_by id k v true e sound h = absurd cc
@@ -201,7 +204,9 @@ there front after d =
 one_more : (front : List Datum) (d : Datum) → length (front ++ d ∷ []) ≡ suc (length front)
 one_more front d = length-append front (d ∷ []) ∙ omega arith
 
-pub parts_again : (columns : List Column) (whole front : List Datum) (n : ℕ) (earlier : List Value) (parts : List PartField) (vs : List Value) → whole ≡ front ++ part_datums columns parts vs → length front ≡ n → are_sound columns parts ≡ true → are_parts columns parts vs ≡ true → part_values whole earlier (placed columns n parts) ≡ Ok (earlier ++ vs)
+pub parts_again : (columns : List Column) (whole front : List Datum) (n : ℕ) (earlier : List Value) (parts : List PartField)
+    (vs : List Value) → whole ≡ front ++ part_datums columns parts vs → length front ≡ n → are_sound columns parts ≡ true
+    → are_parts columns parts vs ≡ true → part_values whole earlier (placed columns n parts) ≡ Ok (earlier ++ vs)
 unfolding part_values part_datums
 parts_again columns whole front n earlier [] [] is at sound h = ap (λ (xs : List Value). (let r : Result (List Value) ManifestFault = Ok xs in r)) (sym (append-nil earlier))
 parts_again columns whole front n earlier [] (v ∷ vs) is at sound h = absurd cc
@@ -262,7 +267,9 @@ lack id parts = list_all (λ other. not (int_eq other.field id)) parts
 abbrev found_by : Bool → ℕ × Field → Option (ℕ × Field) → Option (ℕ × Field)
 found_by b here later = cond b (Some here) later
 
-found_from : (columns : List Column) (keeps : Bool) (front : List PartField) (part : PartField) (parts : List PartField) (n : ℕ) → lack part.field front ≡ true → field_from part.field n (types_of (part_plans columns keeps (front ++ part ∷ parts))) ≡ Some (n + length front, field_for columns keeps part)
+found_from : (columns : List Column) (keeps : Bool) (front : List PartField) (part : PartField) (parts : List PartField) (n : ℕ)
+    → lack part.field front ≡ true
+    → field_from part.field n (types_of (part_plans columns keeps (front ++ part ∷ parts))) ≡ Some (n + length front, field_for columns keeps part)
 unfolding field_from
 found_from columns keeps [] part parts n h =
     ap (λ (b : Bool). found_by b (n, field_for columns keeps part) (field_from part.field (n + 1) (types_of (part_plans columns keeps parts)))) (same_id part.field) ∙ ap (λ (m : ℕ). (let o : Option (ℕ × Field) = Some (m, field_for columns keeps part) in o)) (omega arith)
@@ -276,7 +283,9 @@ place_by columns part found = or_fault (fault.Field part.field) found >>= λ f. 
 abbrev here_at : List Column → PartField → ℕ → Result PartPlace ManifestFault
 here_at columns part n = Ok (record { field = part.field; kind = kind_of_field columns part; place = n })
 
-place_found : (columns : List Column) (keeps : Bool) (front : List PartField) (part : PartField) (parts : List PartField) → lack part.field front ≡ true → part_place columns (types_of (part_plans columns keeps (front ++ part ∷ parts))) part ≡ here_at columns part (length front)
+place_found : (columns : List Column) (keeps : Bool) (front : List PartField) (part : PartField) (parts : List PartField)
+    → lack part.field front ≡ true
+    → part_place columns (types_of (part_plans columns keeps (front ++ part ∷ parts))) part ≡ here_at columns part (length front)
 place_found columns keeps front part parts h =
     ap (place_by columns part) (found_from columns keeps front part parts 0 h)
     ∙ ap (λ (b : Bool). cond b (here_at columns part (0 + length front)) (Err (fault.Kind part.field))) (carried (kind_of_field columns part))
@@ -294,7 +303,8 @@ no_field_here : (b others : Bool) → not (b || others) ≡ true → (b ≡ fals
 no_field_here true others h = absurd cc
 no_field_here false others h = (refl, h)
 
-apart_more : (front : List PartField) (part : PartField) (parts : List PartField) → apart_from front parts ≡ true → not (has_field part.field parts) ≡ true → apart_from (front ++ part ∷ []) parts ≡ true
+apart_more : (front : List PartField) (part : PartField) (parts : List PartField) → apart_from front parts ≡ true
+    → not (has_field part.field parts) ≡ true → apart_from (front ++ part ∷ []) parts ≡ true
 apart_more front part [] h new = refl
 apart_more front part (other ∷ parts) h new =
     let here = no_field_here (int_eq other.field part.field) (has_field part.field parts) new in
@@ -303,7 +313,9 @@ apart_more front part (other ∷ parts) h new =
 one_part_more : (front : List PartField) (part : PartField) → length (front ++ part ∷ []) ≡ suc (length front)
 one_part_more front part = length-append front (part ∷ []) ∙ omega arith
 
-parts_found : (columns : List Column) (keeps : Bool) (whole front : List PartField) (n : ℕ) (earlier : List PartPlace) (parts : List PartField) → whole ≡ front ++ parts → length front ≡ n → apart_from front parts ≡ true → are_apart parts ≡ true → part_places columns (types_of (part_plans columns keeps whole)) earlier parts ≡ Ok (earlier ++ placed columns n parts)
+parts_found : (columns : List Column) (keeps : Bool) (whole front : List PartField) (n : ℕ) (earlier : List PartPlace)
+    (parts : List PartField) → whole ≡ front ++ parts → length front ≡ n → apart_from front parts ≡ true → are_apart parts ≡ true
+    → part_places columns (types_of (part_plans columns keeps whole)) earlier parts ≡ Ok (earlier ++ placed columns n parts)
 unfolding part_places are_apart
 parts_found columns keeps whole front n earlier [] is at new h = ap (λ (xs : List PartPlace). (let r : Result (List PartPlace) ManifestFault = Ok xs in r)) (sym (append-nil earlier))
 parts_found columns keeps whole front n earlier (part ∷ parts) is at new h =
@@ -318,7 +330,8 @@ none_before : (parts : List PartField) → apart_from [] parts ≡ true
 none_before [] = refl
 none_before (part ∷ parts) = none_before parts
 
-pub all_found : (columns : List Column) (keeps : Bool) (parts : List PartField) → are_apart parts ≡ true → part_places columns (types_of (part_plans columns keeps parts)) [] parts ≡ Ok (placed columns 0 parts)
+pub all_found : (columns : List Column) (keeps : Bool) (parts : List PartField) → are_apart parts ≡ true
+    → part_places columns (types_of (part_plans columns keeps parts)) [] parts ≡ Ok (placed columns 0 parts)
 all_found columns keeps parts h = parts_found columns keeps parts [] 0 [] parts refl refl (none_before parts) h
 
 -- ---- kinds

@@ -44,7 +44,8 @@ part_type_is : (k : Option Kind) → type_of (part_plan k) ≡ part_type k
 part_type_is None = refl
 part_type_is (Some k) = ap optional_type (kind_type_is k)
 
-pub parts_are : (columns : List Column) (keeps : Bool) (parts : List PartField) → types_of (part_plans columns keeps parts) ≡ map (part_field columns keeps) parts
+pub parts_are : (columns : List Column) (keeps : Bool) (parts : List PartField)
+    → types_of (part_plans columns keeps parts) ≡ map (part_field columns keeps) parts
 parts_are columns keeps [] = refl
 parts_are columns keeps (part ∷ parts) =
     ap (λ (s : Schema). field part.field (part_name keeps part) s ∷ types_of (part_plans columns keeps parts)) (part_type_is (kind_of_field columns part)) ∙ ap (λ (fs : List Field). part_field columns keeps part ∷ fs) (parts_are columns keeps parts)

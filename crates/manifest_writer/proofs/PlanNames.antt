@@ -5,7 +5,7 @@ use Rattle.std.proofs.lemmas.Str.{is_utf8-from_IsUtf8}
 use Rattle.manifest_writer.specs.PartTypes.{decimal_size, decimal_name}
 use Rattle.avro_binary.specs.declared.schema.Logical.TheVariants.{Decimal}
 use Rattle.avro_binary.specs.SchemaOnce.{Begins, when, is_id, is_logical, one_name, each_once, once_level, once_field_level}
-use Rattle.avro_binary.proofs.JsonTexts.{are_ascii, is_text}
+use Rattle.avro_binary.proofs.CallerLemmas.{are_ascii, is_text}
 use Rattle.manifest_writer.proofs.Plans.{Plan, boolean_plan, int_plan, long_plan, bytes_plan, text_plan, date_plan, instant_plan, decimal_plan, pairs_plan, optional_plan, items_plan, record_plan, Plans, no_plans, more_plans, fold_plan, fold_plans}
 
 abbrev mutual
@@ -80,7 +80,8 @@ mutual
   named_is (record_plan name ps) begun h = ap (λ (b : Bool). when b (λ xs. option_and_then (each_once (fold_plans Begins Begins once_level once_field_level ps)) (one_name name xs)) begun) (utf8 name (first (are_ascii name) (plain_fields ps) h))
       ∙ same_after (each_once (fold_plans Begins Begins once_level once_field_level ps)) (named_each ps) (one_name name begun) (λ xs. fields_named ps xs (second (are_ascii name) (plain_fields ps) h))
 
-  pub fields_named : (ps : Plans) (begun : List (List ℕ)) → plain_fields ps ≡ true → each_once (fold_plans Begins Begins once_level once_field_level ps) begun ≡ named_each ps begun
+  pub fields_named : (ps : Plans) (begun : List (List ℕ)) → plain_fields ps ≡ true
+      → each_once (fold_plans Begins Begins once_level once_field_level ps) begun ≡ named_each ps begun
   fields_named no_plans begun h = refl
   fields_named (more_plans id name p ps) begun h =
       let later = second (are_ascii name) (is_id (Some id) && (plain_names p && plain_fields ps)) h in

@@ -88,19 +88,25 @@ tested b a f = cond b (Ok a) (Err f)
 abbrev pub needed_by : FieldType → ℤ → Option (ℕ × Field) → Result ℕ ManifestFault
 needed_by t id found = or_fault (fault.Field id) found >>= typed t id
 
-pub needed_is : (t : FieldType) (id : ℤ) (fields : List Field) (name : List ℕ) (place : ℕ) (p : Plan) → field_at id fields ≡ Some (place, field id name (type_of p)) → is_type t (out_plan (inner p)) ≡ true → needed t id fields ≡ Ok place
+pub needed_is : (t : FieldType) (id : ℤ) (fields : List Field) (name : List ℕ) (place : ℕ) (p : Plan)
+    → field_at id fields ≡ Some (place, field id name (type_of p)) → is_type t (out_plan (inner p)) ≡ true
+    → needed t id fields ≡ Ok place
 needed_is t id fields name place p found is = ap (needed_by t id) found ∙ ap (λ (b : Bool). tested b place (fault.Kind id)) (type_is t p ∙ is)
 
 abbrev pub optional_by : FieldType → ℤ → Option (ℕ × Field) → Result (Option ℕ) ManifestFault
 optional_by t id found = by_option found (λ f. typed t id f >>= λ place. Ok (Some place)) (Ok None)
 
-pub optional_is : (t : FieldType) (id : ℤ) (fields : List Field) (name : List ℕ) (place : ℕ) (p : Plan) → field_at id fields ≡ Some (place, field id name (type_of p)) → is_type t (out_plan (inner p)) ≡ true → optional t id fields ≡ Ok (Some place)
+pub optional_is : (t : FieldType) (id : ℤ) (fields : List Field) (name : List ℕ) (place : ℕ) (p : Plan)
+    → field_at id fields ≡ Some (place, field id name (type_of p)) → is_type t (out_plan (inner p)) ≡ true
+    → optional t id fields ≡ Ok (Some place)
 optional_is t id fields name place p found is = ap (optional_by t id) found ∙ ap (λ (b : Bool). tested b place (fault.Kind id) >>= λ n. (let r : Result (Option ℕ) ManifestFault = Ok (Some n) in r)) (type_is t p ∙ is)
 
 abbrev pub items_by : FieldType → ℤ → Option (ℕ × Field) → Result (Option ℕ) ManifestFault
 items_by t id found = by_option found (λ f. cond (has_items t f.1.schema) (Ok (Some f.0)) (Err (fault.Kind id))) (Ok None)
 
-pub optional_items_is : (t : FieldType) (id : ℤ) (fields : List Field) (name : List ℕ) (place : ℕ) (element : ℤ) (p : Plan) → field_at id fields ≡ Some (place, field id name (type_of (optional_plan (items_plan element p)))) → is_type t (out_plan (inner p)) ≡ true → optional_items t id fields ≡ Ok (Some place)
+pub optional_items_is : (t : FieldType) (id : ℤ) (fields : List Field) (name : List ℕ) (place : ℕ) (element : ℤ) (p : Plan)
+    → field_at id fields ≡ Some (place, field id name (type_of (optional_plan (items_plan element p))))
+    → is_type t (out_plan (inner p)) ≡ true → optional_items t id fields ≡ Ok (Some place)
 optional_items_is t id fields name place element p found is = ap (items_by t id) found
     ∙ ap (λ (o : Option Schema). tested (by_option o (has_type t) false) (Some place) (fault.Kind id)) (items_is (optional_plan (items_plan element p))) ∙ ap (λ (b : Bool). tested b (Some place) (fault.Kind id)) (type_is t p ∙ is)
 
@@ -109,7 +115,9 @@ optional_items_is t id fields name place element p found is = ap (items_by t id)
 abbrev pub typed_by : FieldType → Option (ℕ × Field) → Option ℕ
 typed_by t found = option_and_then (λ f. cond (has_type t f.1.schema) (Some f.0) None) found
 
-pub typed_at_is : (t : FieldType) (id : ℤ) (fields : List Field) (name : List ℕ) (place : ℕ) (p : Plan) → field_at id fields ≡ Some (place, field id name (type_of p)) → is_type t (out_plan (inner p)) ≡ true → typed_at t id fields ≡ Some place
+pub typed_at_is : (t : FieldType) (id : ℤ) (fields : List Field) (name : List ℕ) (place : ℕ) (p : Plan)
+    → field_at id fields ≡ Some (place, field id name (type_of p)) → is_type t (out_plan (inner p)) ≡ true
+    → typed_at t id fields ≡ Some place
 typed_at_is t id fields name place p found is = ap (typed_by t) found ∙ ap (λ (b : Bool). cond b (Some place) None) (type_is t p ∙ is)
 
 elements_is : (name : List ℕ) (ps : Plans) → element_fields (type_of (optional_plan (pairs_plan (record_plan name ps)))) ≡ types_of ps
@@ -121,7 +129,9 @@ placed_pairs place key value = record { place = Some place; key = key; value = v
 abbrev pairs_by : FieldType → ℤ → ℤ → ℤ → Option (ℕ × Field) → Result PairPlaces ManifestFault
 pairs_by t id key value found = by_option found (λ f. or_fault (fault.Kind id) (pairs_in t key value f.0 (element_fields f.1.schema))) (Ok no_pairs)
 
-pub pairs_is : (t : FieldType) (id key value : ℤ) (fields : List Field) (name : List ℕ) (place : ℕ) (inside : List ℕ) (ps : Plans) → field_at id fields ≡ Some (place, field id name (type_of (optional_plan (pairs_plan (record_plan inside ps))))) → typed_at type.Int key (types_of ps) ≡ Some 0 → typed_at t value (types_of ps) ≡ Some 1
+pub pairs_is : (t : FieldType) (id key value : ℤ) (fields : List Field) (name : List ℕ) (place : ℕ) (inside : List ℕ) (ps : Plans)
+    → field_at id fields ≡ Some (place, field id name (type_of (optional_plan (pairs_plan (record_plan inside ps)))))
+    → typed_at type.Int key (types_of ps) ≡ Some 0 → typed_at t value (types_of ps) ≡ Some 1
     → pairs t id key value fields ≡ Ok (record { place = Some place; key = 0; value = 1 })
 pairs_is t id key value fields name place inside ps found has_key has_value =
     ap (pairs_by t id key value) found ∙ ap (λ (fs : List Field). or_fault (fault.Kind id) (pairs_in t key value place fs)) (elements_is inside ps)

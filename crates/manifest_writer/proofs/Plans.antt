@@ -70,7 +70,8 @@ null_is : (A B : Type 0) (f : open_schema.Schema-F A B → A) (g : open_schema.F
 null_is A B f g = ap (fold-Schema A B f g) (sym schema.rolls-Null) ∙ fold-roll-Schema A B f g open_schema.Null
 
 mutual
-  pub plan_folds : (A B : Type 0) (f : open_schema.Schema-F A B → A) (g : open_schema.Field-F A B → B) (p : Plan) → fold-Schema A B f g (type_of p) ≡ fold_plan A B f g p
+  pub plan_folds : (A B : Type 0) (f : open_schema.Schema-F A B → A) (g : open_schema.Field-F A B → B) (p : Plan)
+      → fold-Schema A B f g (type_of p) ≡ fold_plan A B f g p
   plan_folds A B f g boolean_plan = ap (fold-Schema A B f g) (sym schema.rolls-Boolean) ∙ fold-roll-Schema A B f g open_schema.Boolean
   plan_folds A B f g int_plan = ap (fold-Schema A B f g) (sym (schema.rolls-Int Plain)) ∙ fold-roll-Schema A B f g (open_schema.Int Plain)
   plan_folds A B f g long_plan = ap (fold-Schema A B f g) (sym (schema.rolls-Long Plain)) ∙ fold-roll-Schema A B f g (open_schema.Long Plain)
@@ -88,7 +89,8 @@ mutual
   plan_folds A B f g (record_plan name ps) = ap (fold-Schema A B f g) (sym (schema.rolls-Record name (types_of ps))) ∙ fold-roll-Schema A B f g (open_schema.Record name (types_of ps))
       ∙ ap (λ (xs : List B). f (open_schema.Record name xs)) (plans_fold A B f g ps)
 
-  pub plans_fold : (A B : Type 0) (f : open_schema.Schema-F A B → A) (g : open_schema.Field-F A B → B) (ps : Plans) → map (fold-Field A B f g) (types_of ps) ≡ fold_plans A B f g ps
+  pub plans_fold : (A B : Type 0) (f : open_schema.Schema-F A B → A) (g : open_schema.Field-F A B → B) (ps : Plans)
+      → map (fold-Field A B f g) (types_of ps) ≡ fold_plans A B f g ps
   plans_fold A B f g no_plans = refl
   plans_fold A B f g (more_plans id name p ps) = ap (λ (x : B). x ∷ map (fold-Field A B f g) (types_of ps)) (fold_out-Field A B f g (field id name (type_of p)) ∙ ap (λ (x : A). g (record { name = name; id = Some id; schema = x })) (plan_folds A B f g p))
       ∙ ap (λ (xs : List B). g (record { name = name; id = Some id; schema = fold_plan A B f g p }) ∷ xs) (plans_fold A B f g ps)

@@ -90,7 +90,8 @@ array_there ds = branch (datum.Array ds) (open_datum.Array ds) (array_out ds) re
 
 -- ---- values
 
-pub text_again : (f : ManifestFault) (bytes : List ℕ) → is_utf8 bytes ≡ true → or_fault f (option_and_then as_text (option_and_then text_in (present_in (datum.Text bytes)))) ≡ Ok bytes
+pub text_again : (f : ManifestFault) (bytes : List ℕ) → is_utf8 bytes ≡ true
+    → or_fault f (option_and_then as_text (option_and_then text_in (present_in (datum.Text bytes)))) ≡ Ok bytes
 text_again f bytes h = ap (λ (o : Option Datum). or_fault f (option_and_then as_text (option_and_then text_in o))) (alone (datum.Text bytes) (open_datum.Text bytes) (text_out bytes) refl refl)
     ∙ ap (λ (y : open_datum.Datum-F Datum MapPair). or_fault f (option_and_then as_text (text_level y))) (text_out bytes) ∙ ap (λ (b : Bool). or_fault f (if b then Some bytes else None)) h
 

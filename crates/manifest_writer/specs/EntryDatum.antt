@@ -11,7 +11,7 @@ use Rattle.manifest_files.specs.declared.entry.Content.TheVariants as content
 use Rattle.manifest_files.specs.declared.entry.Entry.{Entry}
 use Rattle.row_values.specs.declared.schema.TableSchema.{TableSchema}
 use Rattle.row_values.specs.declared.partition.Spec.{Spec}
-use Rattle.column_bounds.specs.declared.stats.ColumnStats.{ColumnStats}
+use Rattle.kind_values.specs.declared.stats.ColumnStats.{ColumnStats}
 use Rattle.manifest_writer.specs.declared.fact.Fact.TheVariants as fact
 use Rattle.manifest_writer.specs.EntryTypes.{entry_types}
 use Rattle.manifest_writer.specs.Facts.{fact_value, HasIds}

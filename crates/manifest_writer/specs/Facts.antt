@@ -4,8 +4,8 @@ use Rattle.std.specs.Prelude.{ℕ, ℤ, pos, List, [], ◌∷◌, Option, Some, 
 use Rattle.std.specs.List.{AllByRecursion, flat_map}
 use Rattle.plain_types.specs.Steps.{by_option}
 use Rattle.row_values.specs.declared.value.Value.{Value}
-use Rattle.column_bounds.specs.declared.stats.ColumnStats.{ColumnStats}
-use Rattle.column_bounds.specs.Bounds.{bytes_of}
+use Rattle.kind_values.specs.declared.stats.ColumnStats.{ColumnStats}
+use Rattle.kind_values.specs.Bounds.{bytes_of}
 use Rattle.avro_binary.specs.declared.datum.Datum.{Datum}
 use Rattle.avro_binary.specs.declared.datum.Datum.TheVariants as datum
 use Rattle.avro_binary.specs.declared.schema.Field.{Field}

@@ -3,8 +3,8 @@ use Rattle.std.specs.Prelude.{ℕ, List, [], ◌∷◌, codes}
 use Rattle.std.specs.Fmt.{signed_decimal}
 use Rattle.row_values.specs.declared.schema.TableSchema.{TableSchema}
 use Rattle.row_values.specs.declared.partition.Spec.{Spec}
-use Rattle.schema_json.specs.SchemaData.{schema_text}
-use Rattle.schema_json.specs.SpecData.{spec_text}
+use Rattle.iceberg_schema.specs.SchemaData.{schema_text}
+use Rattle.iceberg_schema.specs.SpecData.{spec_text}
 use Rattle.avro_container.specs.declared.pairs.MetaPair.{MetaPair}
 use Rattle.manifest_files.specs.declared.entry.Content.{Content}
 use Rattle.manifest_files.specs.declared.entry.Content.TheVariants as content

@@ -7,7 +7,7 @@ use Rattle.row_values.specs.declared.value.Value.TheVariants as value
 use Rattle.row_values.specs.declared.schema.Column.{Column}
 use Rattle.row_values.specs.declared.partition.PartField.{PartField}
 use Rattle.row_values.specs.Rows.{is_value}
-use Rattle.number_bytes.specs.BigEndian.{bytes_in}
+use Rattle.kind_values.specs.BigEndian.{bytes_in}
 use Rattle.avro_binary.specs.declared.datum.Datum.{Datum}
 use Rattle.avro_binary.specs.declared.datum.Datum.TheVariants as datum
 use Rattle.manifest_files.specs.PartitionKinds.{kind_of_field}

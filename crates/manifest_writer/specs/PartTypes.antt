@@ -5,7 +5,7 @@ use Rattle.row_values.specs.declared.kind.Kind.{Kind}
 use Rattle.row_values.specs.declared.kind.Kind.TheVariants as kind
 use Rattle.row_values.specs.declared.schema.Column.{Column}
 use Rattle.row_values.specs.declared.partition.PartField.{PartField}
-use Rattle.number_bytes.specs.BigEndian.{byte_count}
+use Rattle.kind_values.specs.BigEndian.{byte_count}
 use Rattle.avro_binary.specs.declared.schema.Field.{Field}
 use Rattle.avro_binary.specs.declared.schema.Schema.{Schema}
 use Rattle.avro_binary.specs.declared.schema.Schema.TheVariants as schema

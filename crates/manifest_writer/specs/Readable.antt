@@ -10,8 +10,8 @@ use Rattle.row_values.specs.declared.schema.TableSchema.{TableSchema}
 use Rattle.row_values.specs.declared.partition.PartField.{PartField}
 use Rattle.row_values.specs.declared.partition.Spec.{Spec}
 use Rattle.row_values.specs.Rows.{is_value}
-use Rattle.column_bounds.specs.declared.stats.ColumnStats.{ColumnStats}
-use Rattle.column_bounds.specs.Bounds.{is_kind}
+use Rattle.kind_values.specs.declared.stats.ColumnStats.{ColumnStats}
+use Rattle.kind_values.specs.Bounds.{is_kind}
 use Rattle.avro_binary.specs.Naming.{has_begun}
 use Rattle.avro_binary.specs.SchemaOnce.{is_id}
 use Rattle.manifest_files.specs.declared.entry.Entry.{Entry}

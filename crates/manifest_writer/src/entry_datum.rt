@@ -4,7 +4,22 @@ ghost use Rattle.std.specs.List.{AllByRecursion};
 ghost use Rattle.avro_binary.specs.Spelling.{IsSignedOf};
 ghost use Rattle.std.specs.Str.{IsUtf8};
 ghost use Rattle.manifest_writer.specs.Facts.{HasIds};
-ghost use Rattle.manifest_writer.specs.EntryDatum.{status_number, content_number, own_number, id_datum, ids_value, number_values, head_values, fact_values, file_values, datum_of_entry, entry_size, HasNumbers, HasFile, IsEntry};
+ghost use Rattle.manifest_writer.specs.EntryDatum.{
+  status_number,
+  content_number,
+  own_number,
+  id_datum,
+  ids_value,
+  number_values,
+  head_values,
+  fact_values,
+  file_values,
+  datum_of_entry,
+  entry_size,
+  HasNumbers,
+  HasFile,
+  IsEntry,
+};
 
 use crate::fact::Fact;
 use crate::fact_datum::fact_value;
@@ -14,7 +29,7 @@ use crate::value::{
     value_branch,
 };
 use avro_binary::{Datum, Items, Octets, put_each};
-use column_bounds::ColumnStats;
+use kind_values::ColumnStats;
 use manifest_files::{Content, Entry};
 use row_values::{Spec, TableSchema};
 use std::alloc::{AllocError, Global};

@@ -1,6 +1,18 @@
 //! The type of the entries of a manifest.
 ghost use Rattle.std.specs.Prelude.{◌≡◌, IfOk};
-ghost use Rattle.manifest_writer.specs.EntryTypes.{optional_long, ids_field, referenced_field, partition_field, number_fields, file_head_fields, fact_fields, file_fields, file_field, types_with, entry_types};
+ghost use Rattle.manifest_writer.specs.EntryTypes.{
+  optional_long,
+  ids_field,
+  referenced_field,
+  partition_field,
+  number_fields,
+  file_head_fields,
+  fact_fields,
+  file_fields,
+  file_field,
+  types_with,
+  entry_types,
+};
 
 use crate::fact::Fact;
 use crate::fact_schema::fact_field;

@@ -6,7 +6,7 @@ ghost use Rattle.manifest_writer.specs.Facts.{count_datum, bound_datum, fact_dat
 use crate::fact::Fact;
 use crate::value::{count_number, int_datum, null_branch, value_branch};
 use avro_binary::{Datum, Items, Octets};
-use column_bounds::{ColumnStats, write_bound};
+use kind_values::{ColumnStats, write_bound};
 use row_values::Value;
 use std::alloc::{AllocError, Global};
 

@@ -29,5 +29,6 @@ pub fn write_list(alloc: Global, rows: &[ManifestRow]) -> Result<Bytes, AllocErr
 
 /// Rows that are written are read again, where no count is negative and each bound is bytes.
 pub fn a_written_list_is_read_again()
-    ensures { (rows : List Row) → AllByRecursion IsRow rows → IsTrue (list_all is_listed rows) → length (list_text rows) < 2 ^ 63 → rows_of_list (list_text rows) ≡ Ok rows }
+    ensures { (rows : List Row) → AllByRecursion IsRow rows → IsTrue (list_all is_listed rows) → length (list_text rows) < 2 ^ 63
+        → rows_of_list (list_text rows) ≡ Ok rows }
 {}

@@ -1,13 +1,23 @@
 //! The rows of a manifest list as datums.
 ghost use Rattle.std.specs.Prelude.{◌≡◌, IfOk, map};
 ghost use Rattle.std.specs.List.{AllByRecursion};
-ghost use Rattle.manifest_writer.specs.ListDatum.{content_number, head_values, count_values, datum_of_summary, partitions_value, datum_of_row, HasHead, HasCounts, IsRow};
+ghost use Rattle.manifest_writer.specs.ListDatum.{
+  content_number,
+  head_values,
+  count_values,
+  datum_of_summary,
+  partitions_value,
+  datum_of_row,
+  HasHead,
+  HasCounts,
+  IsRow,
+};
 
 use crate::value::{
     int_datum, long_datum, optional_bound, optional_int, optional_long, text_datum, value_branch,
 };
 use avro_binary::{Datum, Items};
-use column_bounds::Summary;
+use kind_values::Summary;
 use manifest_files::{ManifestContent, ManifestRow};
 use std::alloc::{AllocError, Global};
 

@@ -4,10 +4,10 @@ ghost use Rattle.std.specs.Fmt.{signed_decimal};
 ghost use Rattle.manifest_writer.specs.ManifestMeta.{content_word, manifest_content, meta_pair, manifest_meta};
 
 use avro_container::MetaPair;
+use iceberg_schema::{schema_text, spec_text};
 use manifest_files::{Content, Entry};
 use plain_types::{Bytes, Text};
 use row_values::{Spec, TableSchema};
-use schema_json::{schema_text, spec_text};
 use std::alloc::{AllocError, Global};
 
 fn content_word(content: Content) -> &'static [u8]

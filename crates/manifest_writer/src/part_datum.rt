@@ -5,9 +5,8 @@ ghost use Rattle.manifest_writer.specs.PartDatum.{amount_size, value_datum, part
 use crate::part_schema::decimal_size;
 use crate::value::{null_branch, value_branch};
 use avro_binary::{Datum, Octets};
-use kind_values::is_value;
+use kind_values::{is_value, write_signed_in};
 use manifest_files::kind_of_field;
-use number_bytes::write_signed_in;
 use row_values::{Column, Kind, PartField, Value};
 use std::alloc::{AllocError, Global};
 

@@ -5,8 +5,8 @@ ghost use Rattle.manifest_writer.specs.PartTypes.{decimal_size, decimal_name, ki
 use crate::field::optional_type;
 use crate::part_names::{are_names, part_name};
 use avro_binary::{Field, Logical, Octets, Schema};
+use kind_values::byte_count;
 use manifest_files::kind_of_field;
-use number_bytes::byte_count;
 use row_values::{Column, Kind, PartField};
 use std::alloc::{AllocError, Global};
 

@@ -2,7 +2,17 @@
 ghost use Rattle.std.specs.Prelude.{◌≡◌, IfOk, option_and_then};
 ghost use Rattle.std.specs.Str.{IsUtf8};
 ghost use Rattle.avro_binary.specs.Spelling.{IsSignedOf};
-ghost use Rattle.manifest_writer.specs.Value.{optional, optional_int, optional_long, optional_bound, bytes_inside, AreSignedOf, optional_text, AreUtf8, count_number};
+ghost use Rattle.manifest_writer.specs.Value.{
+  optional,
+  optional_int,
+  optional_long,
+  optional_bound,
+  bytes_inside,
+  AreSignedOf,
+  optional_text,
+  AreUtf8,
+  count_number,
+};
 
 use avro_binary::{Boxed, Datum, Octets};
 use row_values::{Text, Value};

@@ -6,13 +6,13 @@ use Rattle.serde_json.specs.Find.{get, as_object}
 use Rattle.serde_json.specs.View.{view}
 use Rattle.table_metadata.specs.declared.metadata.Metadata.{Metadata}
 use Rattle.table_metadata.specs.declared.snapshots.Snapshot.{Snapshot}
-use Rattle.table_metadata.specs.Keys.{int_at, long_at, text_at, whole_of}
+use Rattle.iceberg_schema.specs.Keys.{int_at, long_at, text_at, whole_of}
 use Rattle.table_metadata.specs.Metadata.{IsMetadataOf, Parts, json_of, metadata_of, parts, parts_of}
 use Rattle.table_metadata.specs.MissingKeys.{keys_stand, needs}
 use Rattle.table_metadata.specs.References.{AreInOrder}
 use Rattle.table_metadata.specs.TableKeys.{is_uuid, plain_keys_of, shape_if, shaped}
-use Rattle.table_metadata.proofs.Coherence.{one_value, two_steps}
-use Rattle.table_metadata.proofs.PartsRead.{parts_read, readings_of}
+use Rattle.table_metadata.proofs.CallerLemmas.{parts_read, readings_of}
+use Rattle.plain_types.proofs.CallerLemmas.{one_value, two_steps}
 use Rattle.metadata_writer.specs.Commit.{after_snapshot, time_after}
 use Rattle.metadata_writer.specs.PartsAfter.{CanFollow, parts_after}
 use Rattle.metadata_writer.specs.Writable.{IsWritable}
@@ -39,7 +39,9 @@ stand_object d h =
     let s = two_steps (needs (codes "format-version") d) _ tt h in needs_object (codes "format-version") d s.1
 
 -- the time that was read
-time_read : (d : Data) (location : List ℕ) (seq time column : ℤ) → plain_keys_of d ≡ Ok (record { location = location; last_sequence = seq; last_updated_ms = time; last_column = column }) → long_at (codes "last-updated-ms") d ≡ Some time
+time_read : (d : Data) (location : List ℕ) (seq time column : ℤ)
+    → plain_keys_of d ≡ Ok (record { location = location; last_sequence = seq; last_updated_ms = time; last_column = column })
+    → long_at (codes "last-updated-ms") d ≡ Some time
 unfolding plain_keys_of
 time_read d location seq time column h =
     let s1 = two_steps (shaped (codes "format-version") (option_and_then whole_of (get (codes "format-version") d))) _ _ h in
@@ -55,7 +57,8 @@ time_is : (now old : ℤ) (d : Data) → long_at (codes "last-updated-ms") d ≡
 unfolding time_after
 time_is now old d h = rw h refl
 
-pub parts-after_snapshot : (branch : List ℕ) (s : Snapshot) (writer : List ℕ) (now : ℤ) (d : Data) (p : Parts) → AreInOrder p.refs → CanFollow s now p → parts_of d ≡ Ok p → parts_of (after_snapshot branch s writer now d) ≡ Ok (parts_after branch s now p)
+pub parts-after_snapshot : (branch : List ℕ) (s : Snapshot) (writer : List ℕ) (now : ℤ) (d : Data) (p : Parts) → AreInOrder p.refs
+    → CanFollow s now p → parts_of d ≡ Ok p → parts_of (after_snapshot branch s writer now d) ≡ Ok (parts_after branch s now p)
 parts-after_snapshot branch s writer now d p order can h =
     let r = readings_of d p h in
     let is = stand_object d r.stand in
@@ -77,16 +80,22 @@ parts-after_snapshot branch s writer now d p order can h =
     })
 
 -- from text to text
-pub text-after_snapshot : (bytes text : List ℕ) (branch : List ℕ) (s : Snapshot) (writer : List ℕ) (now : ℤ) (d : Data) (p : Parts) → CanFollow s now p → json_of bytes ≡ Ok d → metadata_of bytes ≡ Ok p → json_of text ≡ Ok (after_snapshot branch s writer now d) → metadata_of text ≡ Ok (parts_after branch s now p)
+pub text-after_snapshot : (bytes text : List ℕ) (branch : List ℕ) (s : Snapshot) (writer : List ℕ) (now : ℤ) (d : Data)
+    (p : Parts) → CanFollow s now p → json_of bytes ≡ Ok d → metadata_of bytes ≡ Ok p
+    → json_of text ≡ Ok (after_snapshot branch s writer now d) → metadata_of text ≡ Ok (parts_after branch s now p)
 text-after_snapshot bytes text branch s writer now d p can j h k =
     let read : parts_of d ≡ Ok p = sym (read_parts bytes d j) ∙ h in
     read_parts text _ k ∙ parts-after_snapshot branch s writer now d p (parts_in_order bytes d p j read) can read
 
 -- what is written of metadata that was read
-pub committed_json : (bytes text branch : List ℕ) (s : Snapshot) (writer : List ℕ) (now : ℤ) (m : Metadata) (e : Data) → e ≡ after_snapshot branch s writer now (view m.json) → (IsWritable e → json_of text ≡ Ok e) → IsMetadataOf bytes m → json_of text ≡ Ok (after_snapshot branch s writer now (view m.json))
+pub committed_json : (bytes text branch : List ℕ) (s : Snapshot) (writer : List ℕ) (now : ℤ) (m : Metadata) (e : Data)
+    → e ≡ after_snapshot branch s writer now (view m.json) → (IsWritable e → json_of text ≡ Ok e) → IsMetadataOf bytes m
+    → json_of text ≡ Ok (after_snapshot branch s writer now (view m.json))
 committed_json bytes text branch s writer now m e h back is =
     rw h at back (writable-after_snapshot branch s writer now (view m.json) (writable-read bytes (view m.json) is.json))
 
-pub committed_parts : (bytes text branch : List ℕ) (s : Snapshot) (writer : List ℕ) (now : ℤ) (m : Metadata) (e : Data) → e ≡ after_snapshot branch s writer now (view m.json) → (IsWritable e → json_of text ≡ Ok e) → IsMetadataOf bytes m → CanFollow s now (parts m) → metadata_of text ≡ Ok (parts_after branch s now (parts m))
+pub committed_parts : (bytes text branch : List ℕ) (s : Snapshot) (writer : List ℕ) (now : ℤ) (m : Metadata) (e : Data)
+    → e ≡ after_snapshot branch s writer now (view m.json) → (IsWritable e → json_of text ≡ Ok e) → IsMetadataOf bytes m
+    → CanFollow s now (parts m) → metadata_of text ≡ Ok (parts_after branch s now (parts m))
 committed_parts bytes text branch s writer now m e h back is can =
     text-after_snapshot bytes text branch s writer now (view m.json) (parts m) can is.json is.read (committed_json bytes text branch s writer now m e h back is)

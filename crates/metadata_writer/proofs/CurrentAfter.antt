@@ -8,12 +8,13 @@ use Rattle.table_metadata.specs.declared.snapshots.Snapshot.{Snapshot}
 use Rattle.table_metadata.specs.TableKeys.{current_snapshot_of}
 use Rattle.table_metadata.specs.References.{is_main_name}
 use Rattle.metadata_writer.specs.Commit.{after_snapshot, and_item, items_in, log_line, long_data, with_branch_on, with_current, with_snapshot_listed}
-use Rattle.metadata_writer.specs.Fitting.{IsLong}
+use Rattle.iceberg_schema.specs.Widths.{IsLong}
 use Rattle.metadata_writer.proofs.Kept.{apart, get-with_branch_on, get-with_change, get-with_current, get-with_item, get-with_item_other, get-with_key, get-with_key_other, get-with_snapshot_listed, object-with_key, object-with_snapshot_listed}
 use Rattle.metadata_writer.proofs.PlainAfter.{object-with_branch_on}
 use Rattle.metadata_writer.proofs.ReadAfter.{as_i64-of_integer}
 
-current-with_current : (branch : List ℕ) (s : Snapshot) (d : Data) → is_main_name branch ≡ true → IsSome (as_object d) → get (codes "current-snapshot-id") (with_current branch s d) ≡ Some (long_data s.id)
+current-with_current : (branch : List ℕ) (s : Snapshot) (d : Data) → is_main_name branch ≡ true → IsSome (as_object d)
+    → get (codes "current-snapshot-id") (with_current branch s d) ≡ Some (long_data s.id)
 unfolding with_current
 current-with_current branch s d main is =
     rw main (get-with_item_other (codes "current-snapshot-id") (codes "snapshot-log") (log_line s) _ (apart _ _ refl) ∙ get-with_key (codes "current-snapshot-id") _ d is)
@@ -22,7 +23,9 @@ items_in-same : (key : List ℕ) (d e : Data) → get key e ≡ get key d → it
 unfolding items_in
 items_in-same key d e h = rw h refl
 
-log-with_current : (branch : List ℕ) (s : Snapshot) (d : Data) → is_main_name branch ≡ true → IsSome (as_object d) → get (codes "snapshot-log") (with_current branch s d) ≡ Some (array (and_item (log_line s) (items_in (codes "snapshot-log") d)))
+log-with_current : (branch : List ℕ) (s : Snapshot) (d : Data) → is_main_name branch ≡ true → IsSome (as_object d)
+    → get (codes "snapshot-log") (with_current branch s d) ≡ Some (array (and_item (log_line s)
+    (items_in (codes "snapshot-log") d)))
 unfolding with_current
 log-with_current branch s d main is =
     rw main (get-with_item (codes "snapshot-log") (log_line s) _ (object-with_key (codes "current-snapshot-id") _ d is)
@@ -31,13 +34,16 @@ log-with_current branch s d main is =
 object-before : (branch : List ℕ) (s : Snapshot) (d : Data) → IsSome (as_object d) → IsSome (as_object (with_branch_on branch s.id (with_snapshot_listed s d)))
 object-before branch s d is = object-with_branch_on branch s.id _ (object-with_snapshot_listed s d is)
 
-current-after_snapshot : (branch : List ℕ) (s : Snapshot) (writer : List ℕ) (now : ℤ) (d : Data) → is_main_name branch ≡ true → IsSome (as_object d) → get (codes "current-snapshot-id") (after_snapshot branch s writer now d) ≡ Some (long_data s.id)
+current-after_snapshot : (branch : List ℕ) (s : Snapshot) (writer : List ℕ) (now : ℤ) (d : Data) → is_main_name branch ≡ true
+    → IsSome (as_object d) → get (codes "current-snapshot-id") (after_snapshot branch s writer now d) ≡ Some (long_data s.id)
 unfolding after_snapshot
 current-after_snapshot branch s writer now d main is =
     get-with_change (codes "current-snapshot-id") writer now _ (apart _ _ refl) (apart _ _ refl)
     ∙ current-with_current branch s _ main (object-before branch s d is)
 
-pub log-after_snapshot : (branch : List ℕ) (s : Snapshot) (writer : List ℕ) (now : ℤ) (d : Data) → is_main_name branch ≡ true → IsSome (as_object d) → get (codes "snapshot-log") (after_snapshot branch s writer now d) ≡ Some (array (and_item (log_line s) (items_in (codes "snapshot-log") d)))
+pub log-after_snapshot : (branch : List ℕ) (s : Snapshot) (writer : List ℕ) (now : ℤ) (d : Data) → is_main_name branch ≡ true
+    → IsSome (as_object d) → get (codes "snapshot-log")
+    (after_snapshot branch s writer now d) ≡ Some (array (and_item (log_line s) (items_in (codes "snapshot-log") d)))
 unfolding after_snapshot
 log-after_snapshot branch s writer now d main is =
     get-with_change (codes "snapshot-log") writer now _ (apart _ _ refl) (apart _ _ refl)
@@ -45,7 +51,8 @@ log-after_snapshot branch s writer now d main is =
     ∙ ap (λ xs. Some (array (and_item (log_line s) xs))) (items_in-same (codes "snapshot-log") d _
     (get-with_branch_on (codes "snapshot-log") branch s.id _ (apart _ _ refl) ∙ get-with_snapshot_listed (codes "snapshot-log") s d (apart _ _ refl) (apart _ _ refl)))
 
-read_current : (e : Data) (id : ℤ) → get (codes "current-snapshot-id") e ≡ Some (long_data id) → IsLong id → int_eq id (neg_ℤ (pos 1)) ≡ false → current_snapshot_of e ≡ Ok (Some id)
+read_current : (e : Data) (id : ℤ) → get (codes "current-snapshot-id") e ≡ Some (long_data id) → IsLong id
+    → int_eq id (neg_ℤ (pos 1)) ≡ false → current_snapshot_of e ≡ Ok (Some id)
 unfolding current_snapshot_of
 read_current e id h long other = rw (h, as_i64-of_integer id long, other) refl
 
@@ -53,13 +60,16 @@ same_current : (d e : Data) → get (codes "current-snapshot-id") e ≡ get (cod
 unfolding current_snapshot_of
 same_current d e h = rw h refl
 
-pub read_current-after_snapshot : (branch : List ℕ) (s : Snapshot) (writer : List ℕ) (now : ℤ) (d : Data) → is_main_name branch ≡ true → IsSome (as_object d) → IsLong s.id → int_eq s.id (neg_ℤ (pos 1)) ≡ false → current_snapshot_of (after_snapshot branch s writer now d) ≡ Ok (Some s.id)
+pub read_current-after_snapshot : (branch : List ℕ) (s : Snapshot) (writer : List ℕ) (now : ℤ) (d : Data)
+    → is_main_name branch ≡ true → IsSome (as_object d) → IsLong s.id → int_eq s.id (neg_ℤ (pos 1)) ≡ false
+    → current_snapshot_of (after_snapshot branch s writer now d) ≡ Ok (Some s.id)
 read_current-after_snapshot branch s writer now d main is long other = read_current _ s.id (current-after_snapshot branch s writer now d main is) long other
 
 not_main : (b : Bool) → b ≡ false → b ≡ true → ⊥
 not_main b f t = false≢true (sym f ∙ t)
 
-pub kept_current-after_snapshot : (branch : List ℕ) (s : Snapshot) (writer : List ℕ) (now : ℤ) (d : Data) → is_main_name branch ≡ false → current_snapshot_of (after_snapshot branch s writer now d) ≡ current_snapshot_of d
+pub kept_current-after_snapshot : (branch : List ℕ) (s : Snapshot) (writer : List ℕ) (now : ℤ) (d : Data)
+    → is_main_name branch ≡ false → current_snapshot_of (after_snapshot branch s writer now d) ≡ current_snapshot_of d
 unfolding after_snapshot
 kept_current-after_snapshot branch s writer now d other =
     same_current d _

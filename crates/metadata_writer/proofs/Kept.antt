@@ -6,7 +6,7 @@ use Rattle.serde_json.specs.Data.{Data, null, boolean, number, string, array, ob
 use Rattle.serde_json.specs.Find.{get, as_object}
 use Rattle.serde_json.proofs.Views.{get_member-put, get_member-put_other}
 use Rattle.table_metadata.specs.declared.snapshots.Snapshot.{Snapshot}
-use Rattle.table_metadata.specs.Keys.{members_at}
+use Rattle.iceberg_schema.specs.Keys.{members_at}
 use Rattle.table_metadata.specs.References.{is_main_name}
 use Rattle.plain_types.specs.Steps.{by_option}
 use Rattle.metadata_writer.specs.Commit.{with_key, with_item, items_in, object_in, and_item, after_snapshot, branch_data, log_line, snapshot_data, with_snapshot_listed, refs_after, with_branch_on, with_current, with_change}
@@ -80,12 +80,15 @@ kept_if : (b : Bool) (q : List ℕ) (e d : Data) → (b ≡ true → get q e ≡
 kept_if true q e d h = h refl
 kept_if false q e d h = refl
 
-pub get-with_current : (q branch : List ℕ) (s : Snapshot) (d : Data) → (is_main_name branch ≡ true → q ≢ codes "current-snapshot-id") → (is_main_name branch ≡ true → q ≢ codes "snapshot-log") → get q (with_current branch s d) ≡ get q d
+pub get-with_current : (q branch : List ℕ) (s : Snapshot) (d : Data)
+    → (is_main_name branch ≡ true → q ≢ codes "current-snapshot-id") → (is_main_name branch ≡ true → q ≢ codes "snapshot-log")
+    → get q (with_current branch s d) ≡ get q d
 unfolding with_current
 get-with_current q branch s d current log =
     kept_if (is_main_name branch) q _ d (λ e. get-with_item_other q (codes "snapshot-log") (log_line s) _ (log e) ∙ get-with_key_other q (codes "current-snapshot-id") _ d (current e))
 
-pub get-with_change : (q writer : List ℕ) (now : ℤ) (d : Data) → q ≢ codes "last-updated-ms" → q ≢ codes "dml-writer" → get q (with_change writer now d) ≡ get q d
+pub get-with_change : (q writer : List ℕ) (now : ℤ) (d : Data) → q ≢ codes "last-updated-ms" → q ≢ codes "dml-writer"
+    → get q (with_change writer now d) ≡ get q d
 unfolding with_change
 get-with_change q writer now d time key =
     get-with_key_other q (codes "dml-writer") _ _ key ∙ get-with_key_other q (codes "last-updated-ms") _ d time
@@ -94,12 +97,14 @@ pub get-with_branch_on : (q branch : List ℕ) (id : ℤ) (d : Data) → q ≢ c
 unfolding with_branch_on
 get-with_branch_on q branch id d refs = get-with_key_other q (codes "refs") _ d refs
 
-pub get-with_snapshot_listed : (q : List ℕ) (s : Snapshot) (d : Data) → q ≢ codes "snapshots" → q ≢ codes "last-sequence-number" → get q (with_snapshot_listed s d) ≡ get q d
+pub get-with_snapshot_listed : (q : List ℕ) (s : Snapshot) (d : Data) → q ≢ codes "snapshots" → q ≢ codes "last-sequence-number"
+    → get q (with_snapshot_listed s d) ≡ get q d
 unfolding with_snapshot_listed
 get-with_snapshot_listed q s d list last =
     get-with_key_other q (codes "last-sequence-number") _ _ last ∙ get-with_item_other q (codes "snapshots") _ d list
 
-pub kept-after_snapshot : (branch : List ℕ) (s : Snapshot) (writer : List ℕ) (now : ℤ) (d : Data) (q : List ℕ) → IsKept branch q → get q (after_snapshot branch s writer now d) ≡ get q d
+pub kept-after_snapshot : (branch : List ℕ) (s : Snapshot) (writer : List ℕ) (now : ℤ) (d : Data) (q : List ℕ) → IsKept branch q
+    → get q (after_snapshot branch s writer now d) ≡ get q d
 unfolding after_snapshot
 kept-after_snapshot branch s writer now d q k =
     get-with_change q writer now _ k.time k.writer
@@ -109,7 +114,9 @@ kept-after_snapshot branch s writer now d q k =
 
 -- ---- the lists that it adds to
 
-pub snapshots-after_snapshot : (branch : List ℕ) (s : Snapshot) (writer : List ℕ) (now : ℤ) (d : Data) → IsSome (as_object d) → get (codes "snapshots") (after_snapshot branch s writer now d) ≡ Some (array (and_item (snapshot_data s) (items_in (codes "snapshots") d)))
+pub snapshots-after_snapshot : (branch : List ℕ) (s : Snapshot) (writer : List ℕ) (now : ℤ) (d : Data) → IsSome (as_object d)
+    → get (codes "snapshots") (after_snapshot branch s writer now d) ≡ Some (array (and_item (snapshot_data s)
+    (items_in (codes "snapshots") d)))
 unfolding after_snapshot with_snapshot_listed
 snapshots-after_snapshot branch s writer now d is =
     get-with_change (codes "snapshots") writer now _ (apart _ _ refl) (apart _ _ refl)
@@ -131,11 +138,13 @@ object-refs_after : (branch : List ℕ) (id : ℤ) (refs : Data) → IsSome (as_
 unfolding refs_after
 object-refs_after branch id refs is = object-with_key branch _ refs is
 
-refs-with_branch_on : (branch : List ℕ) (id : ℤ) (d : Data) → IsSome (as_object d) → get (codes "refs") (with_branch_on branch id d) ≡ Some (refs_after branch id (object_in (codes "refs") d))
+refs-with_branch_on : (branch : List ℕ) (id : ℤ) (d : Data) → IsSome (as_object d)
+    → get (codes "refs") (with_branch_on branch id d) ≡ Some (refs_after branch id (object_in (codes "refs") d))
 unfolding with_branch_on
 refs-with_branch_on branch id d is = get-with_key (codes "refs") _ d is
 
-pub refs-after_snapshot : (branch : List ℕ) (s : Snapshot) (writer : List ℕ) (now : ℤ) (d : Data) → IsSome (as_object d) → get (codes "refs") (after_snapshot branch s writer now d) ≡ Some (refs_after branch s.id (object_in (codes "refs") d))
+pub refs-after_snapshot : (branch : List ℕ) (s : Snapshot) (writer : List ℕ) (now : ℤ) (d : Data) → IsSome (as_object d)
+    → get (codes "refs") (after_snapshot branch s writer now d) ≡ Some (refs_after branch s.id (object_in (codes "refs") d))
 unfolding after_snapshot
 refs-after_snapshot branch s writer now d is =
     get-with_change (codes "refs") writer now _ (apart _ _ refl) (apart _ _ refl)
@@ -143,16 +152,21 @@ refs-after_snapshot branch s writer now d is =
     ∙ refs-with_branch_on branch s.id _ (object-with_snapshot_listed s d is)
     ∙ ap (λ r. Some (refs_after branch s.id r)) (object_in-same (codes "refs") (with_snapshot_listed s d) d (get-with_snapshot_listed (codes "refs") s d (apart _ _ refl) (apart _ _ refl)))
 
-pub refs_in-after_snapshot : (branch : List ℕ) (s : Snapshot) (writer : List ℕ) (now : ℤ) (d : Data) → IsSome (as_object d) → object_in (codes "refs") (after_snapshot branch s writer now d) ≡ refs_after branch s.id (object_in (codes "refs") d)
+pub refs_in-after_snapshot : (branch : List ℕ) (s : Snapshot) (writer : List ℕ) (now : ℤ) (d : Data) → IsSome (as_object d)
+    → object_in (codes "refs") (after_snapshot branch s writer now d) ≡ refs_after branch s.id (object_in (codes "refs") d)
 refs_in-after_snapshot branch s writer now d is =
     object_in-found (codes "refs") _ _ (refs-after_snapshot branch s writer now d is) (object-refs_after branch s.id _ (object-object_in (codes "refs") d))
 
-pub other_ref-after_snapshot : (branch : List ℕ) (s : Snapshot) (writer : List ℕ) (now : ℤ) (d : Data) (name : List ℕ) → IsSome (as_object d) → name ≢ branch → get name (object_in (codes "refs") (after_snapshot branch s writer now d)) ≡ get name (object_in (codes "refs") d)
+pub other_ref-after_snapshot : (branch : List ℕ) (s : Snapshot) (writer : List ℕ) (now : ℤ) (d : Data) (name : List ℕ)
+    → IsSome (as_object d) → name ≢ branch → get name (object_in (codes "refs")
+    (after_snapshot branch s writer now d)) ≡ get name (object_in (codes "refs") d)
 unfolding refs_after
 other_ref-after_snapshot branch s writer now d name is other =
     rw (refs_in-after_snapshot branch s writer now d is) (get-with_key_other name branch _ (object_in (codes "refs") d) other)
 
-pub its_ref-after_snapshot : (branch : List ℕ) (s : Snapshot) (writer : List ℕ) (now : ℤ) (d : Data) → IsSome (as_object d) → get branch (object_in (codes "refs") (after_snapshot branch s writer now d)) ≡ Some (branch_data s.id (object_in branch (object_in (codes "refs") d)))
+pub its_ref-after_snapshot : (branch : List ℕ) (s : Snapshot) (writer : List ℕ) (now : ℤ) (d : Data) → IsSome (as_object d)
+    → get branch (object_in (codes "refs")
+    (after_snapshot branch s writer now d)) ≡ Some (branch_data s.id (object_in branch (object_in (codes "refs") d)))
 unfolding refs_after
 its_ref-after_snapshot branch s writer now d is =
     rw (refs_in-after_snapshot branch s writer now d is) (get-with_key branch _ (object_in (codes "refs") d) (object-object_in (codes "refs") d))

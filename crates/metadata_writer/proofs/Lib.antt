@@ -1,15 +1,16 @@
-pub mod CommitRead
-pub mod CurrentAfter
-pub mod Items
-pub mod Kept
-pub mod NewFits
-pub mod NewRead
-pub mod NewWithin
-pub mod OptionalAfter
-pub mod PlainAfter
-pub mod ReadAfter
-pub mod RefOrder
-pub mod RefsAfter
-pub mod StandAfter
-pub mod Texts
-pub mod Within
+pub mod CallerLemmas
+mod CommitRead
+mod CurrentAfter
+mod Items
+mod Kept
+mod NewFits
+mod NewRead
+mod NewWithin
+mod OptionalAfter
+mod PlainAfter
+mod ReadAfter
+mod RefOrder
+mod RefsAfter
+mod StandAfter
+mod Texts
+mod Within

@@ -11,7 +11,7 @@ use Rattle.row_values.specs.declared.partition.Spec.{Spec}
 use Rattle.row_values.specs.declared.schema.Column.{Column}
 use Rattle.row_values.specs.declared.schema.TableSchema.{TableSchema}
 use Rattle.table_metadata.specs.FieldIds.{clash, field_ids_fit, has_column_above, has_field_above, may_be_one}
-use Rattle.table_metadata.specs.SoundSchema.{IsSoundSchema, same_id}
+use Rattle.iceberg_schema.specs.SoundSchema.{IsSoundSchema, same_id}
 
 beq_itself : (b : Bool) → beq b b ≡ true
 beq_itself true = refl
@@ -43,7 +43,8 @@ no_other x (y ∷ ys) h =
     let p = neither (int_eq x.id y.id) (has same_id x ys) h in rw (other_id x y p.0) (no_other x ys p.1)
 
 -- a column with another id changes nothing for these
-past_one : (x : Column) (xs ys : List Column) → has same_id x ys ≡ false → list_any (λ c. list_any (λ o. clash c o) (x ∷ xs) || false) ys ≡ list_any (λ c. list_any (λ o. clash c o) xs || false) ys
+past_one : (x : Column) (xs ys : List Column) → has same_id x ys ≡ false
+    → list_any (λ c. list_any (λ o. clash c o) (x ∷ xs) || false) ys ≡ list_any (λ c. list_any (λ o. clash c o) xs || false) ys
 past_one x xs [] h = refl
 past_one x xs (y ∷ ys) h =
     let p = neither (int_eq x.id y.id) (has same_id x ys) h in
@@ -53,7 +54,9 @@ none_clash : (cs : List Column) → Apart same_id cs → list_any (λ c. list_an
 none_clash [] a = refl
 none_clash (x ∷ xs) a = rw (not_itself x, no_other x xs a.0) (past_one x xs xs a.0 ∙ none_clash xs a.1)
 
-pub sound_schema-fits : (last_column last_partition : ℤ) (schema : TableSchema) (spec : Spec) → IsSoundSchema schema → has_column_above last_column (schema ∷ []) ≡ false → has_field_above last_partition (spec ∷ []) ≡ false → field_ids_fit last_column last_partition (schema ∷ []) (spec ∷ []) ≡ Ok tt
+pub sound_schema-fits : (last_column last_partition : ℤ) (schema : TableSchema) (spec : Spec) → IsSoundSchema schema
+    → has_column_above last_column (schema ∷ []) ≡ false → has_field_above last_partition (spec ∷ []) ≡ false
+    → field_ids_fit last_column last_partition (schema ∷ []) (spec ∷ []) ≡ Ok tt
 unfolding field_ids_fit
 sound_schema-fits last_column last_partition schema spec sound c f =
     rw c (rw (none_clash schema.columns sound.ids) (rw f refl))

@@ -9,22 +9,22 @@ use Rattle.row_values.specs.declared.partition.Spec.{Spec}
 use Rattle.row_values.specs.declared.schema.Column.{Column}
 use Rattle.row_values.specs.declared.schema.TableSchema.{TableSchema}
 use Rattle.table_metadata.specs.declared.properties.Properties.{Properties}
-use Rattle.table_metadata.specs.declared.schema_fault.SchemaJsonFault.TheVariants as schema_fault
-use Rattle.table_metadata.specs.declared.spec_fault.SpecFault.TheVariants as spec_fault
-use Rattle.table_metadata.specs.Keys.{has_id, has_twice, in_int, int_at, item_count, items_at, long_at}
+use Rattle.iceberg_schema.specs.declared.schema_fault.SchemaJsonFault.TheVariants as schema_fault
+use Rattle.iceberg_schema.specs.declared.spec_fault.SpecFault.TheVariants as spec_fault
+use Rattle.iceberg_schema.specs.Keys.{has_id, has_twice, in_int, int_at, item_count, items_at, long_at}
 use Rattle.table_metadata.specs.Metadata.{json_of, metadata_of, parts_of}
 use Rattle.table_metadata.specs.MissingKeys.{keys_stand, listed_refs_stand, listed_snapshots_stand, table_keys_stand, version_fits}
 use Rattle.table_metadata.specs.References.{all_hold, all_refs, listed_refs_of, refs_of, with_main}
-use Rattle.table_metadata.specs.SchemaJson.{columns_of, table_schema_of}
+use Rattle.iceberg_schema.specs.SchemaJson.{columns_of, table_schema_of}
 use Rattle.table_metadata.specs.SchemaList.{columns_with, schemas_from, schemas_of, specs_from, specs_of}
 use Rattle.table_metadata.specs.Snapshots.{snapshots_of}
-use Rattle.table_metadata.specs.SpecJson.{fields_of, spec_of}
+use Rattle.iceberg_schema.specs.SpecJson.{fields_of, spec_of}
 use Rattle.table_metadata.specs.TableKeys.{current_ids_of, current_snapshot_of, log_shape, optional_keys_of, plain_keys_of, properties_shape, refs_shape, snapshots_shape}
-use Rattle.table_metadata.proofs.Coherence.{one_value, two_steps}
-use Rattle.table_metadata.proofs.PartsRead.{parts_read, then_ok}
+use Rattle.table_metadata.proofs.CallerLemmas.{parts_read, then_ok}
+use Rattle.plain_types.proofs.CallerLemmas.{one_value, two_steps}
 use Rattle.plain_types.specs.Steps.{fault_if, or_fault}
 use Rattle.metadata_writer.specs.Commit.{long_data, with_key}
-use Rattle.metadata_writer.specs.Fitting.{IsInt, IsLong}
+use Rattle.iceberg_schema.specs.Widths.{IsInt, IsLong}
 use Rattle.metadata_writer.specs.NewTable.{Made, IsMadeOf, first_parts, first_version, name_keys, one_item, only_properties, order_data, order_keys, schema_keys, schema_list, spec_data, spec_keys, spec_list, time_keys, version_keys}
 use Rattle.metadata_writer.proofs.ReadAfter.{as_i64-of_integer, same_properties}
 use Rattle.metadata_writer.proofs.Texts.{read_parts}
@@ -104,7 +104,8 @@ keys_of_new : (t : Made) → keys_stand (laid t) ≡ Ok tt
 unfolding keys_stand version_fits table_keys_stand listed_snapshots_stand listed_refs_stand
 keys_of_new t = refl
 
-plain_of_new : (schema : TableSchema) (spec : Spec) (properties : Properties) (t : Made) → IsMadeOf schema spec properties t → plain_keys_of (laid t) ≡ Ok (record { location = t.location; last_sequence = pos 0; last_updated_ms = t.created_ms; last_column = t.last_column })
+plain_of_new : (schema : TableSchema) (spec : Spec) (properties : Properties) (t : Made) → IsMadeOf schema spec properties t
+    → plain_keys_of (laid t) ≡ Ok (record { location = t.location; last_sequence = pos 0; last_updated_ms = t.created_ms; last_column = t.last_column })
 unfolding plain_keys_of
 plain_of_new schema spec properties t m =
     rw (m.uuid, as_i64-of_integer t.created_ms m.created, as_i64-of_integer t.last_column (long_of_int t.last_column m.last_column), m.last_column) refl
@@ -113,13 +114,18 @@ one_id : (key : List ℕ) (n : ℤ) (d : Data) → long_at key d ≡ Some n → 
 unfolding has_twice has_id
 one_id key n d h = (rw h refl, rw h (rw (int_eq_equiv.refl n) refl))
 
-ids_at : (t : Made) → (has_twice (codes "schema-id") (item (t.schema) no_items) ≡ false) × (has_id (codes "schema-id") t.schema_id (item (t.schema) no_items) ≡ true) → (has_twice (codes "spec-id") (item (spec_data (t.fields)) no_items) ≡ false) × (has_id (codes "spec-id") (pos 0) (item (spec_data (t.fields)) no_items) ≡ true) → IsInt t.schema_id → IsInt t.last_partition
+ids_at : (t : Made) → (has_twice (codes "schema-id") (item (t.schema) no_items) ≡ false)
+    × (has_id (codes "schema-id") t.schema_id (item (t.schema) no_items) ≡ true)
+    → (has_twice (codes "spec-id") (item (spec_data (t.fields)) no_items) ≡ false)
+    × (has_id (codes "spec-id") (pos 0) (item (spec_data (t.fields)) no_items) ≡ true) → IsInt t.schema_id
+    → IsInt t.last_partition
     → current_ids_of (laid t) ≡ Ok (record { schema = t.schema_id; spec = pos 0; last_partition = t.last_partition })
 unfolding current_ids_of
 ids_at t a b i l =
     rw (a.0, as_i64-of_integer t.schema_id (long_of_int t.schema_id i), i, a.1, b.0, b.1, as_i64-of_integer t.last_partition (long_of_int t.last_partition l), l) refl
 
-ids_of_new : (schema : TableSchema) (spec : Spec) (properties : Properties) (t : Made) → IsMadeOf schema spec properties t → current_ids_of (laid t) ≡ Ok (record { schema = t.schema_id; spec = pos 0; last_partition = t.last_partition })
+ids_of_new : (schema : TableSchema) (spec : Spec) (properties : Properties) (t : Made) → IsMadeOf schema spec properties t
+    → current_ids_of (laid t) ≡ Ok (record { schema = t.schema_id; spec = pos 0; last_partition = t.last_partition })
 ids_of_new schema spec properties t m =
     let s = schema_id_read (t.schema) schema m.reads_schema in
     ids_at t (one_id (codes "schema-id") t.schema_id (t.schema) (s.0 ∙ ap Some (sym m.id))) (one_id (codes "spec-id") (pos 0) (spec_data (t.fields)) (spec_id (t.fields))) (subst IsInt (sym m.id) s.1) m.last_partition
@@ -144,7 +150,8 @@ schemas_of_new : (t : Made) (schema : TableSchema) → table_schema_of (t.schema
 unfolding schemas_of schemas_from
 schemas_of_new t schema h = rw h refl
 
-specs_of_new : (t : Made) (schema : TableSchema) (spec : Spec) → t.schema_id ≡ schema.id → spec_of schema.columns (spec_data (t.fields)) ≡ Ok spec → specs_of t.schema_id (schema ∷ []) (laid t) ≡ Ok (spec ∷ [])
+specs_of_new : (t : Made) (schema : TableSchema) (spec : Spec) → t.schema_id ≡ schema.id
+    → spec_of schema.columns (spec_data (t.fields)) ≡ Ok spec → specs_of t.schema_id (schema ∷ []) (laid t) ≡ Ok (spec ∷ [])
 unfolding specs_of specs_from columns_with
 specs_of_new t schema spec e h = rw e (rw (int_eq_equiv.refl schema.id) (rw h refl))
 
@@ -152,7 +159,8 @@ refs_of_new : refs_of None [] [] ≡ Ok []
 unfolding refs_of all_refs with_main all_hold
 refs_of_new = refl
 
-pub first_version-read : (schema : TableSchema) (spec : Spec) (properties : Properties) (t : Made) → IsMadeOf schema spec properties t → parts_of (first_version t) ≡ Ok (first_parts schema spec properties t)
+pub first_version-read : (schema : TableSchema) (spec : Spec) (properties : Properties) (t : Made)
+    → IsMadeOf schema spec properties t → parts_of (first_version t) ≡ Ok (first_parts schema spec properties t)
 first_version-read schema spec properties t m =
     ap parts_of (first_laid t)
     ∙ parts_read (laid t) (first_parts schema spec properties t) (record {
@@ -173,11 +181,13 @@ first_version-read schema spec properties t m =
 
 -- ---- a spec that was read elsewhere
 
-spec_at : (fields : Data) (items : Items) (f : Data) → items_at (codes "fields") f ≡ Some items → get (codes "fields") f ≡ Some fields → items_at (codes "fields") (spec_data fields) ≡ Some items
+spec_at : (fields : Data) (items : Items) (f : Data) → items_at (codes "fields") f ≡ Some items
+    → get (codes "fields") f ≡ Some fields → items_at (codes "fields") (spec_data fields) ≡ Some items
 unfolding spec_data with_key
 spec_at fields items f h k = rw k at h
 
-pub spec_of_fields : (columns : List Column) (d fields : Data) (spec : Spec) → spec_of columns d ≡ Ok spec → get (codes "fields") d ≡ Some fields → spec_of columns (spec_data fields) ≡ Ok (record { id = pos 0; fields = spec.fields })
+pub spec_of_fields : (columns : List Column) (d fields : Data) (spec : Spec) → spec_of columns d ≡ Ok spec
+    → get (codes "fields") d ≡ Some fields → spec_of columns (spec_data fields) ≡ Ok (record { id = pos 0; fields = spec.fields })
 unfolding spec_of
 spec_of_fields columns d fields spec h k =
     let s1 = two_steps (or_fault (spec_fault.Missing (codes "spec-id")) (int_at (codes "spec-id") d)) _ spec h in
@@ -189,5 +199,7 @@ spec_of_fields columns d fields spec h k =
     (then_ok _ _ _ _ s3.1
     (then_ok _ _ _ _ s4.1 (ap (λ (x : Spec). Ok (record { id = pos 0; fields = x.fields })) (one_value _ spec _ refl s4.2)))))
 
-pub text-first_version : (text : List ℕ) (schema : TableSchema) (spec : Spec) (properties : Properties) (t : Made) → IsMadeOf schema spec properties t → json_of text ≡ Ok (first_version t) → metadata_of text ≡ Ok (first_parts schema spec properties t)
+pub text-first_version : (text : List ℕ) (schema : TableSchema) (spec : Spec) (properties : Properties) (t : Made)
+    → IsMadeOf schema spec properties t → json_of text ≡ Ok (first_version t)
+    → metadata_of text ≡ Ok (first_parts schema spec properties t)
 text-first_version text schema spec properties t m h = read_parts text (first_version t) h ∙ first_version-read schema spec properties t m

@@ -55,7 +55,8 @@ order_keys-within n t ws wf =
     with_key-within (suc (suc (suc n))) (codes "default-sort-order-id") _ _ (long-within (suc (suc (suc n))) (pos 0))
     (with_key-within (suc (suc (suc n))) (codes "sort-orders") _ _ (one_item-within (suc (suc n)) _ (order_data-within n)) (spec_keys-within (suc n) t ws wf))
 
-first_version-within : (n : ℕ) (t : Made) → Within (suc (suc n)) (t.schema) → Within (suc n) (t.fields) → Within (suc (suc (suc n))) (t.properties) → Within (suc (suc (suc (suc n)))) (first_version t)
+first_version-within : (n : ℕ) (t : Made) → Within (suc (suc n)) (t.schema) → Within (suc n) (t.fields)
+    → Within (suc (suc (suc n))) (t.properties) → Within (suc (suc (suc (suc n)))) (first_version t)
 unfolding first_version
 first_version-within n t ws wf wp = with_key-within (suc (suc (suc n))) (codes "properties") _ _ wp (order_keys-within n t ws wf)
 
@@ -69,7 +70,8 @@ first_version-object t =
     (object-with_key (codes "last-updated-ms") _ _ (object-with_key (codes "last-sequence-number") _ _
     (object-with_key (codes "location") _ _ (object-with_key (codes "table-uuid") _ _ (object-with_key (codes "format-version") _ _ refl)))))))))))))
 
-pub writable-first_version : (t : Made) → has_float (t.schema) ≡ false → depth (t.schema) ≤ 125 → has_float (t.fields) ≡ false → depth (t.fields) ≤ 124 → has_float (t.properties) ≡ false → depth (t.properties) ≤ 126 → IsWritable (first_version t)
+pub writable-first_version : (t : Made) → has_float (t.schema) ≡ false → depth (t.schema) ≤ 125 → has_float (t.fields) ≡ false
+    → depth (t.fields) ≤ 124 → has_float (t.properties) ≡ false → depth (t.properties) ≤ 126 → IsWritable (first_version t)
 writable-first_version t a b c d e f =
     let all = first_version-within 123 t (record { whole = a; nests = b }) (record { whole = c; nests = d }) (record { whole = e; nests = f }) in
     record { object = first_version-object t; whole = all.whole; nests = all.nests }

@@ -10,15 +10,16 @@ use Rattle.serde_json.specs.Find.{get, as_array, as_object}
 use Rattle.table_metadata.specs.declared.metadata_fault.MetadataFault.{MetadataFault}
 use Rattle.table_metadata.specs.declared.metadata_fault.MetadataFault.TheVariants as fault
 use Rattle.table_metadata.specs.declared.snapshots.Snapshot.{Snapshot}
-use Rattle.table_metadata.specs.Keys.{all_objects, has_id, has_twice, is_id, items_at, long_at, text_at}
+use Rattle.iceberg_schema.specs.Keys.{all_objects, has_id, has_twice, is_id, items_at, long_at, text_at}
 use Rattle.table_metadata.specs.References.{has_snapshot, is_main_name}
 use Rattle.table_metadata.specs.Snapshots.{operation_of, optional_int, optional_long, snapshot_of, snapshots_from, snapshots_of}
 use Rattle.table_metadata.specs.TableKeys.{all_members_objects, are_snapshots, current_snapshot_of, log_shape, optional_keys_of, properties_shape, refs_shape, shape_if, shaped, snapshots_shape}
-use Rattle.table_metadata.proofs.Coherence.{one_value, two_steps}
-use Rattle.table_metadata.proofs.PartsRead.{then_ok}
+use Rattle.table_metadata.proofs.CallerLemmas.{then_ok}
+use Rattle.plain_types.proofs.CallerLemmas.{one_value, two_steps}
 use Rattle.plain_types.specs.Steps.{◌>>=◌, by_option, fault_if}
 use Rattle.metadata_writer.specs.Commit.{after_snapshot, and_item, branch_data, items_in, object_in, refs_after, snapshot_data, with_key}
-use Rattle.metadata_writer.specs.Fitting.{Fits, IsLong}
+use Rattle.metadata_writer.specs.Fitting.{Fits}
+use Rattle.iceberg_schema.specs.Widths.{IsLong}
 use Rattle.metadata_writer.specs.PartsAfter.{current_after}
 use Rattle.metadata_writer.proofs.CurrentAfter.{kept_current-after_snapshot, log-after_snapshot, read_current-after_snapshot}
 use Rattle.metadata_writer.proofs.Kept.{apart, get-with_branch_on, get-with_change, get-with_current, get-with_snapshot_listed, object-object_in, object-with_key, refs-after_snapshot, snapshots-after_snapshot}
@@ -49,7 +50,8 @@ neither true b h = cc
 not_that_id : (id : ℤ) (o : Option ℤ) (n : ℤ) → o ≡ Some n → int_eq n id ≡ false → by_option o (λ m. int_eq m id) false ≡ false
 not_that_id id o n h k = rw h k
 
-none_here : (id : ℤ) (d : Data) (ds : Items) → is_id (codes "snapshot-id") id d ≡ false → has_id (codes "snapshot-id") id ds ≡ false → has_id (codes "snapshot-id") id (item d ds) ≡ false
+none_here : (id : ℤ) (d : Data) (ds : Items) → is_id (codes "snapshot-id") id d ≡ false
+    → has_id (codes "snapshot-id") id ds ≡ false → has_id (codes "snapshot-id") id (item d ds) ≡ false
 unfolding has_id
 none_here id d ds h k = rw h k
 
@@ -58,7 +60,8 @@ unfolding has_id
 none_at_all id = refl
 
 -- no element has an id that no snapshot has
-fresh_read : (id : ℤ) (earlier all : List Snapshot) (ds : Items) → snapshots_from earlier ds ≡ Ok all → has_snapshot id all ≡ false → (has_snapshot id earlier ≡ false) × (has_id (codes "snapshot-id") id ds ≡ false)
+fresh_read : (id : ℤ) (earlier all : List Snapshot) (ds : Items) → snapshots_from earlier ds ≡ Ok all
+    → has_snapshot id all ≡ false → (has_snapshot id earlier ≡ false) × (has_id (codes "snapshot-id") id ds ≡ false)
 unfolding snapshots_from
 fresh_read id earlier all no_items h f = (subst (λ (xs : List Snapshot). has_snapshot id xs ≡ false) (sym (one_value earlier all _ refl h)) f, none_at_all id)
 fresh_read id earlier all (item d ds) h f =
@@ -71,20 +74,26 @@ both_false : (a b : Bool) → cond a true b ≡ false → (a ≡ false) × (b �
 both_false false b h = (refl, h)
 both_false true b h = cc
 
-has_id_parts : (id : ℤ) (d : Data) (ds : Items) → has_id (codes "snapshot-id") id (item d ds) ≡ false → (is_id (codes "snapshot-id") id d ≡ false) × (has_id (codes "snapshot-id") id ds ≡ false)
+has_id_parts : (id : ℤ) (d : Data) (ds : Items) → has_id (codes "snapshot-id") id (item d ds) ≡ false
+    → (is_id (codes "snapshot-id") id d ≡ false) × (has_id (codes "snapshot-id") id ds ≡ false)
 unfolding has_id
 has_id_parts id d ds h = both_false (is_id (codes "snapshot-id") id d) _ h
 
-one_more_id : (id : ℤ) (v : Data) (ds : Items) → is_id (codes "snapshot-id") id v ≡ false → has_id (codes "snapshot-id") id ds ≡ false → has_id (codes "snapshot-id") id (and_item v ds) ≡ false
+one_more_id : (id : ℤ) (v : Data) (ds : Items) → is_id (codes "snapshot-id") id v ≡ false
+    → has_id (codes "snapshot-id") id ds ≡ false → has_id (codes "snapshot-id") id (and_item v ds) ≡ false
 one_more_id id v no_items h k = none_here id v no_items h k
 one_more_id id v (item d ds) h k =
     let p = has_id_parts id d ds k in none_here id d (and_item v ds) p.0 (one_more_id id v ds h p.1)
 
-again_at : (o : Option ℤ) (id : ℤ) (v : Data) (ds : Items) → long_at (codes "snapshot-id") v ≡ Some id → by_option o (λ n. int_eq n id) false ≡ false → by_option o (λ n. has_id (codes "snapshot-id") n ds) false ≡ false → by_option o (λ n. has_id (codes "snapshot-id") n (and_item v ds)) false ≡ false
+again_at : (o : Option ℤ) (id : ℤ) (v : Data) (ds : Items) → long_at (codes "snapshot-id") v ≡ Some id
+    → by_option o (λ n. int_eq n id) false ≡ false → by_option o (λ n. has_id (codes "snapshot-id") n ds) false ≡ false
+    → by_option o (λ n. has_id (codes "snapshot-id") n (and_item v ds)) false ≡ false
 again_at None id v ds h k m = refl
 again_at (Some n) id v ds h k m = one_more_id n v ds (not_that_id n _ id h (int_eq_equiv.symm id n ∙ k)) m
 
-one_more_once : (id : ℤ) (v : Data) (ds : Items) → long_at (codes "snapshot-id") v ≡ Some id → has_id (codes "snapshot-id") id ds ≡ false → has_twice (codes "snapshot-id") ds ≡ false → has_twice (codes "snapshot-id") (and_item v ds) ≡ false
+one_more_once : (id : ℤ) (v : Data) (ds : Items) → long_at (codes "snapshot-id") v ≡ Some id
+    → has_id (codes "snapshot-id") id ds ≡ false → has_twice (codes "snapshot-id") ds ≡ false
+    → has_twice (codes "snapshot-id") (and_item v ds) ≡ false
 unfolding has_twice
 one_more_once id v no_items h k t = rw h (rw (none_at_all id) refl)
 one_more_once id v (item d ds) h k t =
@@ -119,7 +128,9 @@ snapshots_parts true false true h = cc
 snapshots_parts true true c h = cc
 snapshots_parts false b c h = cc
 
-one_more_snapshot : (id : ℤ) (v : Data) (ds : Items) → long_at (codes "snapshot-id") v ≡ Some id → int_eq id (neg_ℤ (pos 1)) ≡ false → has_id (codes "snapshot-id") id ds ≡ false → are_snapshots ds ≡ true → are_snapshots (and_item v ds) ≡ true
+one_more_snapshot : (id : ℤ) (v : Data) (ds : Items) → long_at (codes "snapshot-id") v ≡ Some id
+    → int_eq id (neg_ℤ (pos 1)) ≡ false → has_id (codes "snapshot-id") id ds ≡ false → are_snapshots ds ≡ true
+    → are_snapshots (and_item v ds) ≡ true
 unfolding are_snapshots
 one_more_snapshot id v ds h told k a =
     let p = snapshots_parts (all_objects ds) (has_twice (codes "snapshot-id") ds) (has_id (codes "snapshot-id") (neg_ℤ (pos 1)) ds) a in
@@ -133,7 +144,9 @@ untold : (e : MetadataFault) (b : Bool) (a : ⊤) → fault_if e (not b) ≡ Ok 
 untold e true a h = refl
 untold e false a h = cc
 
-shape_of_found : (o : Option Data) → by_option o (λ v. shaped (codes "snapshots") (as_array v) >>= λ ds. shape_if (codes "snapshots") (not (are_snapshots ds))) (Ok tt) ≡ Ok tt → are_snapshots (by_option (option_and_then as_array o) (λ ds. ds) no_items) ≡ true
+shape_of_found : (o : Option Data) → by_option o (λ v. shaped (codes "snapshots")
+    (as_array v) >>= λ ds. shape_if (codes "snapshots") (not (are_snapshots ds))) (Ok tt) ≡ Ok tt
+    → are_snapshots (by_option (option_and_then as_array o) (λ ds. ds) no_items) ≡ true
 shape_of_found None h = no_snapshots
 shape_of_found (Some null) h = cc
 shape_of_found (Some (boolean b)) h = cc
@@ -146,7 +159,8 @@ old_snapshots : (d : Data) → snapshots_shape d ≡ Ok tt → are_snapshots (it
 unfolding snapshots_shape items_in
 old_snapshots d h = shape_of_found (get (codes "snapshots") d) h
 
-old_items : (o : Option Items) (all : List Snapshot) → by_option o (snapshots_from []) (Ok []) ≡ Ok all → snapshots_from [] (by_option o (λ ds. ds) no_items) ≡ Ok all
+old_items : (o : Option Items) (all : List Snapshot) → by_option o (snapshots_from []) (Ok []) ≡ Ok all
+    → snapshots_from [] (by_option o (λ ds. ds) no_items) ≡ Ok all
 unfolding snapshots_from
 old_items None all h = h
 old_items (Some ds) all h = h
@@ -159,7 +173,9 @@ shape_at : (e : Data) (ds : Items) → get (codes "snapshots") e ≡ Some (array
 unfolding snapshots_shape
 shape_at e ds h k = rw (h, k) refl
 
-snapshots_shape-after_snapshot : (branch : List ℕ) (s : Snapshot) (writer : List ℕ) (now : ℤ) (d : Data) (all : List Snapshot) → IsSome (as_object d) → Fits s → int_eq s.id (neg_ℤ (pos 1)) ≡ false → has_snapshot s.id all ≡ false → snapshots_of d ≡ Ok all → snapshots_shape d ≡ Ok tt → snapshots_shape (after_snapshot branch s writer now d) ≡ Ok tt
+snapshots_shape-after_snapshot : (branch : List ℕ) (s : Snapshot) (writer : List ℕ) (now : ℤ) (d : Data) (all : List Snapshot)
+    → IsSome (as_object d) → Fits s → int_eq s.id (neg_ℤ (pos 1)) ≡ false → has_snapshot s.id all ≡ false
+    → snapshots_of d ≡ Ok all → snapshots_shape d ≡ Ok tt → snapshots_shape (after_snapshot branch s writer now d) ≡ Ok tt
 snapshots_shape-after_snapshot branch s writer now d all is fits told new h k =
     shape_at _ _ (snapshots-after_snapshot branch s writer now d is)
     (one_more_snapshot s.id (snapshot_data s) (items_in (codes "snapshots") d) (id_read _ s (snapshot_of-snapshot_data s fits)) told (fresh_read s.id [] all (items_in (codes "snapshots") d) (old_read d all h) new).1 (old_snapshots d k))
@@ -174,7 +190,8 @@ members_parts : (k : List ℕ) (v : Data) (ms : Members) → all_members_objects
 unfolding all_members_objects
 members_parts k v ms h = both_are (is_some (as_object v)) _ h
 
-one_of_objects : (o : Ordering) (a b c : Members) → all_members_objects a ≡ true → all_members_objects b ≡ true → all_members_objects c ≡ true → all_members_objects (match_ordering o a b c) ≡ true
+one_of_objects : (o : Ordering) (a b c : Members) → all_members_objects a ≡ true → all_members_objects b ≡ true
+    → all_members_objects c ≡ true → all_members_objects (match_ordering o a b c) ≡ true
 one_of_objects Less a b c x y z = x
 one_of_objects Equal a b c x y z = y
 one_of_objects Greater a b c x y z = z
@@ -189,7 +206,9 @@ branch_object : (id : ℤ) (old : Data) → IsSome (as_object old) → IsSome (a
 unfolding branch_data
 branch_object id old is = object-with_key (codes "type") _ _ (object-with_key (codes "snapshot-id") _ old is)
 
-refs_shape_at : (e : Data) (branch : List ℕ) (v : Data) (ms : Members) → get (codes "refs") e ≡ Some (with_key branch v (object ms)) → all_members_objects (put branch v ms) ≡ true → refs_shape e ≡ Ok tt
+refs_shape_at : (e : Data) (branch : List ℕ) (v : Data) (ms : Members)
+    → get (codes "refs") e ≡ Some (with_key branch v (object ms)) → all_members_objects (put branch v ms) ≡ true
+    → refs_shape e ≡ Ok tt
 unfolding refs_shape with_key
 refs_shape_at e branch v ms h k = rw (h, k) refl
 
@@ -197,12 +216,17 @@ no_refs : all_members_objects no_members ≡ true
 unfolding all_members_objects
 no_refs = refl
 
-branch_shape : (e : Data) (branch : List ℕ) (id : ℤ) (ms : Members) → all_members_objects ms ≡ true → get (codes "refs") e ≡ Some (refs_after branch id (object ms)) → refs_shape e ≡ Ok tt
+branch_shape : (e : Data) (branch : List ℕ) (id : ℤ) (ms : Members) → all_members_objects ms ≡ true
+    → get (codes "refs") e ≡ Some (refs_after branch id (object ms)) → refs_shape e ≡ Ok tt
 unfolding refs_after
 branch_shape e branch id ms a h =
     refs_shape_at e branch (branch_data id (object_in branch (object ms))) ms h (put_objects branch _ ms (branch_object id _ (object-object_in branch (object ms))) a)
 
-shape_on : (o : Option Data) (e : Data) (branch : List ℕ) (id : ℤ) → by_option o (λ v. shaped (codes "refs") (as_object v) >>= λ ms. shape_if (codes "refs") (not (all_members_objects ms))) (Ok tt) ≡ Ok tt → get (codes "refs") e ≡ Some (refs_after branch id (by_option (option_and_then as_object o) object (object no_members))) → refs_shape e ≡ Ok tt
+shape_on : (o : Option Data) (e : Data) (branch : List ℕ) (id : ℤ)
+    → by_option o (λ v. shaped (codes "refs") (as_object v) >>= λ ms. shape_if (codes "refs") (not (all_members_objects ms)))
+    (Ok tt) ≡ Ok tt
+    → get (codes "refs") e ≡ Some (refs_after branch id (by_option (option_and_then as_object o) object (object no_members)))
+    → refs_shape e ≡ Ok tt
 shape_on None e branch id h k = branch_shape e branch id no_members no_refs k
 shape_on (Some null) e branch id h k = cc
 shape_on (Some (boolean b)) e branch id h k = cc
@@ -211,11 +235,13 @@ shape_on (Some (string s)) e branch id h k = cc
 shape_on (Some (array ds)) e branch id h k = cc
 shape_on (Some (object ms)) e branch id h k = branch_shape e branch id ms (untold (fault.Shape (codes "refs")) (all_members_objects ms) tt h) k
 
-shape_then : (d e : Data) (branch : List ℕ) (id : ℤ) → refs_shape d ≡ Ok tt → get (codes "refs") e ≡ Some (refs_after branch id (object_in (codes "refs") d)) → refs_shape e ≡ Ok tt
+shape_then : (d e : Data) (branch : List ℕ) (id : ℤ) → refs_shape d ≡ Ok tt
+    → get (codes "refs") e ≡ Some (refs_after branch id (object_in (codes "refs") d)) → refs_shape e ≡ Ok tt
 unfolding object_in refs_shape
 shape_then d e branch id h k = shape_on (get (codes "refs") d) e branch id h k
 
-refs_shape-after_snapshot : (branch : List ℕ) (s : Snapshot) (writer : List ℕ) (now : ℤ) (d : Data) → IsSome (as_object d) → refs_shape d ≡ Ok tt → refs_shape (after_snapshot branch s writer now d) ≡ Ok tt
+refs_shape-after_snapshot : (branch : List ℕ) (s : Snapshot) (writer : List ℕ) (now : ℤ) (d : Data) → IsSome (as_object d)
+    → refs_shape d ≡ Ok tt → refs_shape (after_snapshot branch s writer now d) ≡ Ok tt
 refs_shape-after_snapshot branch s writer now d is h = shape_then d _ branch s.id h (refs-after_snapshot branch s writer now d is)
 
 -- ---- the log, the properties and the current snapshot
@@ -235,7 +261,8 @@ same_properties d e h = rw h refl
 not_main : (b : Bool) → b ≡ false → b ≡ true → ⊥
 not_main b f t = cc
 
-kept_log : (branch : List ℕ) (s : Snapshot) (writer : List ℕ) (now : ℤ) (d : Data) → is_main_name branch ≡ false → get (codes "snapshot-log") (after_snapshot branch s writer now d) ≡ get (codes "snapshot-log") d
+kept_log : (branch : List ℕ) (s : Snapshot) (writer : List ℕ) (now : ℤ) (d : Data) → is_main_name branch ≡ false
+    → get (codes "snapshot-log") (after_snapshot branch s writer now d) ≡ get (codes "snapshot-log") d
 unfolding after_snapshot
 kept_log branch s writer now d other =
     get-with_change (codes "snapshot-log") writer now _ (apart _ _ refl) (apart _ _ refl)
@@ -243,15 +270,22 @@ kept_log branch s writer now d other =
     ∙ get-with_branch_on (codes "snapshot-log") branch s.id _ (apart _ _ refl)
     ∙ get-with_snapshot_listed (codes "snapshot-log") s d (apart _ _ refl) (apart _ _ refl)
 
-log_either : (b : Bool) (branch : List ℕ) (s : Snapshot) (writer : List ℕ) (now : ℤ) (d : Data) → is_main_name branch ≡ b → IsSome (as_object d) → log_shape d ≡ Ok tt → log_shape (after_snapshot branch s writer now d) ≡ Ok tt
+log_either : (b : Bool) (branch : List ℕ) (s : Snapshot) (writer : List ℕ) (now : ℤ) (d : Data) → is_main_name branch ≡ b
+    → IsSome (as_object d) → log_shape d ≡ Ok tt → log_shape (after_snapshot branch s writer now d) ≡ Ok tt
 log_either true branch s writer now d main is h = log_at _ _ (log-after_snapshot branch s writer now d main is)
 log_either false branch s writer now d other is h = same_log d _ (kept_log branch s writer now d other) ∙ h
 
-current_either : (b : Bool) (branch : List ℕ) (s : Snapshot) (writer : List ℕ) (now : ℤ) (d : Data) (current : Option ℤ) → is_main_name branch ≡ b → IsSome (as_object d) → IsLong s.id → int_eq s.id (neg_ℤ (pos 1)) ≡ false → current_snapshot_of d ≡ Ok current → current_snapshot_of (after_snapshot branch s writer now d) ≡ Ok (cond b (Some s.id) current)
+current_either : (b : Bool) (branch : List ℕ) (s : Snapshot) (writer : List ℕ) (now : ℤ) (d : Data) (current : Option ℤ)
+    → is_main_name branch ≡ b → IsSome (as_object d) → IsLong s.id → int_eq s.id (neg_ℤ (pos 1)) ≡ false
+    → current_snapshot_of d ≡ Ok current
+    → current_snapshot_of (after_snapshot branch s writer now d) ≡ Ok (cond b (Some s.id) current)
 current_either true branch s writer now d current main is long told h = read_current-after_snapshot branch s writer now d main is long told
 current_either false branch s writer now d current other is long told h = kept_current-after_snapshot branch s writer now d other ∙ h
 
-pub optional_keys-after_snapshot : (branch : List ℕ) (s : Snapshot) (writer : List ℕ) (now : ℤ) (d : Data) (current : Option ℤ) (all : List Snapshot) → IsSome (as_object d) → Fits s → int_eq s.id (neg_ℤ (pos 1)) ≡ false → has_snapshot s.id all ≡ false → snapshots_of d ≡ Ok all → optional_keys_of d ≡ Ok current → optional_keys_of (after_snapshot branch s writer now d) ≡ Ok (current_after branch s.id current)
+pub optional_keys-after_snapshot : (branch : List ℕ) (s : Snapshot) (writer : List ℕ) (now : ℤ) (d : Data) (current : Option ℤ)
+    (all : List Snapshot) → IsSome (as_object d) → Fits s → int_eq s.id (neg_ℤ (pos 1)) ≡ false → has_snapshot s.id all ≡ false
+    → snapshots_of d ≡ Ok all → optional_keys_of d ≡ Ok current
+    → optional_keys_of (after_snapshot branch s writer now d) ≡ Ok (current_after branch s.id current)
 unfolding optional_keys_of
 optional_keys-after_snapshot branch s writer now d current all is fits told new h k =
     let s1 = two_steps (properties_shape d) _ current k in

@@ -17,13 +17,13 @@ use Rattle.serde_json.specs.Written.{has_float}
 use Rattle.table_metadata.specs.declared.metadata_fault.MetadataFault.TheVariants as fault
 use Rattle.table_metadata.specs.declared.references.RefItem.{RefItem}
 use Rattle.table_metadata.specs.declared.snapshots.Snapshot.{Snapshot}
-use Rattle.table_metadata.specs.Keys.{long_at, text_at, members_at}
+use Rattle.iceberg_schema.specs.Keys.{long_at, text_at, members_at}
 use Rattle.table_metadata.specs.Metadata.{Parts, json_of, metadata_of, parts_of, whole_object}
 use Rattle.table_metadata.specs.References.{AreInOrder, all_hold, all_refs, before_main, is_before_main, is_main, is_tag_type, listed_refs_of, lists_main, ref_of, refs_from, refs_of, with_main}
 use Rattle.table_metadata.specs.TableKeys.{shaped}
 use Rattle.plain_types.specs.Steps.{by_option}
-use Rattle.table_metadata.proofs.Coherence.{one_value, two_steps}
-use Rattle.table_metadata.proofs.PartsRead.{readings_of}
+use Rattle.table_metadata.proofs.CallerLemmas.{readings_of}
+use Rattle.plain_types.proofs.CallerLemmas.{one_value, two_steps}
 
 abbrev text_cmp : List ℕ → List ℕ → Ordering
 text_cmp = slice_cmp nat_cmp
@@ -59,7 +59,8 @@ above_later : (k l : List ℕ) (ms : Members) → text_cmp k l ≡ Less → Abov
 above_later k l no_members h a = tt
 above_later k l (member m d ms) h a = (nat_list_cmp_total.trans k l m h a.0, above_later k l ms h a.1)
 
-one_of : (P : Members → Type 0) (o r : Ordering) (a b c : Members) → r ≡ o → (r ≡ Less → P a) → (r ≡ Equal → P b) → (r ≡ Greater → P c) → P (match_ordering o a b c)
+one_of : (P : Members → Type 0) (o r : Ordering) (a b c : Members) → r ≡ o → (r ≡ Less → P a) → (r ≡ Equal → P b)
+    → (r ≡ Greater → P c) → P (match_ordering o a b c)
 one_of P Less r a b c e x y z = x e
 one_of P Equal r a b c e x y z = y e
 one_of P Greater r a b c e x y z = z e
@@ -84,7 +85,8 @@ holds_map : {A B : Type 0} (P : A → Type 0) (Q : B → Type 0) (f : A → B) �
 holds_map P Q f k None h = tt
 holds_map P Q f k (Some a) h = k a h
 
-holds_then : {A B : Type 0} (P : A → Type 0) (Q : B → Type 0) (f : A → Option B) → ((a : A) → P a → Holds Q (f a)) → (o : Option A) → Holds P o → Holds Q (option_and_then f o)
+holds_then : {A B : Type 0} (P : A → Type 0) (Q : B → Type 0) (f : A → Option B) → ((a : A) → P a → Holds Q (f a))
+    → (o : Option A) → Holds P o → Holds Q (option_and_then f o)
 holds_then P Q f k None h = tt
 holds_then P Q f k (Some a) h = k a h
 
@@ -124,7 +126,8 @@ whole_is : (e d : Data) → whole_object e ≡ Ok d → e ≡ d
 unfolding whole_object
 whole_is e d h = whole_at _ (has_float e) e d h
 
-ordered_at : (u : Bool) (r : Option Data) (d : Data) → Holds IsOrdered r → cond u (by_option r whole_object (Err fault.Json)) (Err fault.Json) ≡ Ok d → IsOrdered d
+ordered_at : (u : Bool) (r : Option Data) (d : Data) → Holds IsOrdered r
+    → cond u (by_option r whole_object (Err fault.Json)) (Err fault.Json) ≡ Ok d → IsOrdered d
 ordered_at true (Some e) d o h = subst IsOrdered (whole_is e d h) o
 ordered_at true None d o h = cc
 ordered_at false r d o h = cc
@@ -213,16 +216,21 @@ listed_in_order d listed o h = members_in_order (members_at (codes "refs") d) li
 
 -- ---- the implied `main` stands at its place
 
-below_all : (k l : List ℕ) (ns : List (List ℕ)) → text_cmp k l ≡ Less → AllByRecursion (λ n. text_cmp l n ≡ Less) ns → AllByRecursion (λ n. text_cmp k n ≡ Less) ns
+below_all : (k l : List ℕ) (ns : List (List ℕ)) → text_cmp k l ≡ Less → AllByRecursion (λ n. text_cmp l n ≡ Less) ns
+    → AllByRecursion (λ n. text_cmp k n ≡ Less) ns
 below_all k l [] h a = tt
 below_all k l (n ∷ ns) h a = (nat_list_cmp_total.trans k l n h a.0, below_all k l ns h a.1)
 
-below_placed_at : (b : Bool) (k : List ℕ) (m x : RefItem) (xs : List RefItem) → text_cmp k m.name ≡ Less → (text_cmp k x.name ≡ Less) × AllByRecursion (λ n. text_cmp k n ≡ Less) (names_of xs) → AllByRecursion (λ n. text_cmp k n ≡ Less) (names_of (insert xs (before_main xs) m))
+below_placed_at : (b : Bool) (k : List ℕ) (m x : RefItem) (xs : List RefItem) → text_cmp k m.name ≡ Less
+    → (text_cmp k x.name ≡ Less) × AllByRecursion (λ n. text_cmp k n ≡ Less) (names_of xs)
+    → AllByRecursion (λ n. text_cmp k n ≡ Less) (names_of (insert xs (before_main xs) m))
     → AllByRecursion (λ n. text_cmp k n ≡ Less) (names_of (insert (x ∷ xs) (cond b (suc (before_main xs)) 0) m))
 below_placed_at true k m x xs h a later = (a.0, later)
 below_placed_at false k m x xs h a later = (h, a)
 
-below_placed : (k : List ℕ) (m : RefItem) (xs : List RefItem) → text_cmp k m.name ≡ Less → AllByRecursion (λ n. text_cmp k n ≡ Less) (names_of xs) → AllByRecursion (λ n. text_cmp k n ≡ Less) (names_of (insert xs (before_main xs) m))
+below_placed : (k : List ℕ) (m : RefItem) (xs : List RefItem) → text_cmp k m.name ≡ Less
+    → AllByRecursion (λ n. text_cmp k n ≡ Less) (names_of xs)
+    → AllByRecursion (λ n. text_cmp k n ≡ Less) (names_of (insert xs (before_main xs) m))
 unfolding before_main
 below_placed k m [] h a = (h, tt)
 below_placed k m (x ∷ xs) h a = below_placed_at (is_before_main x) k m x xs h a (below_placed k m xs h a.1)
@@ -241,7 +249,9 @@ neither : (a b : Bool) → (a || b) ≡ false → (a ≡ false) × (b ≡ false)
 neither false b h = (refl, h)
 neither true b h = cc
 
-placed_at : (b : Bool) (m x : RefItem) (xs : List RefItem) → is_lt (text_cmp x.name m.name) ≡ b → is_eq (text_cmp x.name m.name) ≡ false → IsStrictlySortedBy text_cmp (x.name ∷ names_of xs) → AreInOrder (insert xs (before_main xs) m)
+placed_at : (b : Bool) (m x : RefItem) (xs : List RefItem) → is_lt (text_cmp x.name m.name) ≡ b
+    → is_eq (text_cmp x.name m.name) ≡ false → IsStrictlySortedBy text_cmp (x.name ∷ names_of xs)
+    → AreInOrder (insert xs (before_main xs) m)
     → AreInOrder (insert (x ∷ xs) (cond b (suc (before_main xs)) 0) m)
 unfolding IsStrictlySortedBy
 placed_at true m x xs h e s later = (below_placed x.name m xs (is_less _ h) s.0, later)
@@ -260,7 +270,8 @@ unfolding with_main
 with_main_in_order None listed h s = s
 with_main_in_order (Some id) listed h s = placed_in_order _ listed refl h s
 
-either_in_order : (b : Bool) (current : Option ℤ) (listed : List RefItem) → lists_main listed ≡ b → AreInOrder listed → AreInOrder (cond b listed (with_main current listed))
+either_in_order : (b : Bool) (current : Option ℤ) (listed : List RefItem) → lists_main listed ≡ b → AreInOrder listed
+    → AreInOrder (cond b listed (with_main current listed))
 either_in_order true current listed h s = s
 either_in_order false current listed h s = with_main_in_order current listed h s
 
@@ -268,7 +279,8 @@ all_in_order : (current : Option ℤ) (listed : List RefItem) → AreInOrder lis
 unfolding all_refs
 all_in_order current listed s = either_in_order (lists_main listed) current listed refl s
 
-refs_in_order : (current : Option ℤ) (snapshots : List Snapshot) (listed refs : List RefItem) → refs_of current snapshots listed ≡ Ok refs → AreInOrder listed → AreInOrder refs
+refs_in_order : (current : Option ℤ) (snapshots : List Snapshot) (listed refs : List RefItem)
+    → refs_of current snapshots listed ≡ Ok refs → AreInOrder listed → AreInOrder refs
 unfolding refs_of
 refs_in_order current snapshots listed refs h s =
     let t = two_steps (all_hold current snapshots (all_refs current listed)) _ refs h in

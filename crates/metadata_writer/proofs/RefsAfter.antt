@@ -15,12 +15,12 @@ use Rattle.table_metadata.specs.declared.metadata_fault.MetadataFault.{MetadataF
 use Rattle.table_metadata.specs.declared.metadata_fault.MetadataFault.TheVariants as fault
 use Rattle.table_metadata.specs.declared.references.RefItem.{RefItem}
 use Rattle.table_metadata.specs.declared.snapshots.Snapshot.{Snapshot}
-use Rattle.table_metadata.specs.Keys.{members_at}
+use Rattle.iceberg_schema.specs.Keys.{members_at}
 use Rattle.table_metadata.specs.References.{AreInOrder, all_hold, all_refs, before_main, has_snapshot, holds, is_before_main, is_current, is_main, is_main_name, is_tag_type, listed_refs_of, lists_main, ref_of, refs_from, refs_of, with_main}
-use Rattle.table_metadata.proofs.Coherence.{one_value, two_steps}
+use Rattle.plain_types.proofs.CallerLemmas.{one_value, two_steps}
 use Rattle.plain_types.specs.Steps.{◌>>=◌, by_option, fault_if}
 use Rattle.metadata_writer.specs.Commit.{after_snapshot, branch_data, long_data, object_in, refs_after, with_key}
-use Rattle.metadata_writer.specs.Fitting.{IsLong}
+use Rattle.iceberg_schema.specs.Widths.{IsLong}
 use Rattle.metadata_writer.specs.PartsAfter.{branch_at, current_after, with_ref}
 use Rattle.metadata_writer.proofs.Kept.{apart, get-with_key, get-with_key_other, object-object_in, object-with_key, refs-after_snapshot}
 use Rattle.metadata_writer.proofs.ReadAfter.{as_i64-of_integer}
@@ -42,7 +42,8 @@ abbrev read_each : Members → Result (List RefItem) MetadataFault
 read_each no_members = Ok []
 read_each (member name d ms) = ref_of name d >>= λ r. read_each ms >>= λ rs. Ok (r ∷ rs)
 
-one_more : (F : RefItem → Result (List RefItem) MetadataFault) (q : Result RefItem MetadataFault) (t : Result (List RefItem) MetadataFault) (earlier : List RefItem)
+one_more : (F : RefItem → Result (List RefItem) MetadataFault) (q : Result RefItem MetadataFault)
+    (t : Result (List RefItem) MetadataFault) (earlier : List RefItem)
     → ((r : RefItem) → F r ≡ (t >>= λ rs. Ok ((earlier ++ r ∷ []) ++ rs)))
     → (q >>= F) ≡ ((q >>= λ r. t >>= λ rs. Ok (r ∷ rs)) >>= λ rs. Ok (earlier ++ rs))
 one_more F (Ok r) (Ok rs) earlier k = k r ∙ ap Ok (append_assoc earlier (r ∷ []) rs)
@@ -61,18 +62,21 @@ same_list (Err e) = refl
 read_all : (ms : Members) → refs_from [] ms ≡ read_each ms
 read_all ms = read_behind [] ms ∙ same_list (read_each ms)
 
-one_of : (o q : Ordering) (a b c : Members) (x y z : List RefItem) → q ≡ o → read_each a ≡ Ok x → (o ≡ Equal → read_each b ≡ Ok y) → read_each c ≡ Ok z → read_each (match_ordering o a b c) ≡ Ok (match_ordering q x y z)
+one_of : (o q : Ordering) (a b c : Members) (x y z : List RefItem) → q ≡ o → read_each a ≡ Ok x → (o ≡ Equal → read_each b ≡ Ok y)
+    → read_each c ≡ Ok z → read_each (match_ordering o a b c) ≡ Ok (match_ordering q x y z)
 one_of Less q a b c x y z e h k m = rw e h
 one_of Equal q a b c x y z e h k m = rw e (k refl)
 one_of Greater q a b c x y z e h k m = rw e m
 
-front : (l : List ℕ) (e : Data) (ms : Members) (x : RefItem) (xs : List RefItem) → ref_of l e ≡ Ok x → read_each ms ≡ Ok xs → read_each (member l e ms) ≡ Ok (x ∷ xs)
+front : (l : List ℕ) (e : Data) (ms : Members) (x : RefItem) (xs : List RefItem) → ref_of l e ≡ Ok x → read_each ms ≡ Ok xs
+    → read_each (member l e ms) ≡ Ok (x ∷ xs)
 front l e ms x xs h k = rw (h, k) refl
 
 one_text : (k l : List ℕ) → text_cmp k l ≡ Equal → k ≡ l
 one_text k l h = (bytes_eq-Decides k l).0 (sym (is_eq-slice_cmp k l) ∙ ap is_eq h)
 
-put_read : (k : List ℕ) (v : Data) (r : RefItem) (ms : Members) (rs : List RefItem) → ref_of k v ≡ Ok r → read_each ms ≡ Ok rs → read_each (put k v ms) ≡ Ok (with_ref r rs)
+put_read : (k : List ℕ) (v : Data) (r : RefItem) (ms : Members) (rs : List RefItem) → ref_of k v ≡ Ok r → read_each ms ≡ Ok rs
+    → read_each (put k v ms) ≡ Ok (with_ref r rs)
 unfolding with_ref
 put_read k v r no_members rs h t = subst (λ (xs : List RefItem). read_each (member k v no_members) ≡ Ok (with_ref r xs)) (one_value [] rs _ refl t) (front k v no_members r [] h refl)
 put_read k v r (member l e ms) rs h t =
@@ -85,11 +89,14 @@ put_read k v r (member l e ms) rs h t =
     (λ same. front l v ms r u.0 (subst (λ (n : List ℕ). ref_of n v ≡ Ok r) (one_text k l same) h) u.1)
     (front l e (put k v ms) s.0 (with_ref r u.0) s.1 (put_read k v r ms u.0 h u.1)))
 
-refs_at : (e : Data) (branch : List ℕ) (v : Data) (ms : Members) → get (codes "refs") e ≡ Some (with_key branch v (object ms)) → listed_refs_of e ≡ refs_from [] (put branch v ms)
+refs_at : (e : Data) (branch : List ℕ) (v : Data) (ms : Members) → get (codes "refs") e ≡ Some (with_key branch v (object ms))
+    → listed_refs_of e ≡ refs_from [] (put branch v ms)
 unfolding listed_refs_of with_key
 refs_at e branch v ms h = rw h refl
 
-branch_on : (e : Data) (branch : List ℕ) (id : ℤ) (ms : Members) (listed : List RefItem) → IsLong id → refs_from [] ms ≡ Ok listed → get (codes "refs") e ≡ Some (refs_after branch id (object ms)) → listed_refs_of e ≡ Ok (with_ref (branch_at branch id) listed)
+branch_on : (e : Data) (branch : List ℕ) (id : ℤ) (ms : Members) (listed : List RefItem) → IsLong id → refs_from [] ms ≡ Ok listed
+    → get (codes "refs") e ≡ Some (refs_after branch id (object ms))
+    → listed_refs_of e ≡ Ok (with_ref (branch_at branch id) listed)
 unfolding refs_after
 branch_on e branch id ms listed long r h =
     refs_at e branch (branch_data id (object_in branch (object ms))) ms h
@@ -100,7 +107,10 @@ none_read : refs_from [] no_members ≡ Ok []
 unfolding refs_from
 none_read = refl
 
-on_option : (o : Option Members) (e : Data) (branch : List ℕ) (id : ℤ) (listed : List RefItem) → IsLong id → by_option o (refs_from []) (Ok []) ≡ Ok listed → get (codes "refs") e ≡ Some (refs_after branch id (by_option o object (object no_members))) → listed_refs_of e ≡ Ok (with_ref (branch_at branch id) listed)
+on_option : (o : Option Members) (e : Data) (branch : List ℕ) (id : ℤ) (listed : List RefItem) → IsLong id
+    → by_option o (refs_from []) (Ok []) ≡ Ok listed
+    → get (codes "refs") e ≡ Some (refs_after branch id (by_option o object (object no_members)))
+    → listed_refs_of e ≡ Ok (with_ref (branch_at branch id) listed)
 on_option None e branch id listed long h k = branch_on e branch id no_members listed long (none_read ∙ h) k
 on_option (Some ms) e branch id listed long h k = branch_on e branch id ms listed long h k
 
@@ -108,11 +118,15 @@ old_refs : (d : Data) (listed : List RefItem) → listed_refs_of d ≡ Ok listed
 unfolding listed_refs_of
 old_refs d listed h = h
 
-refs_then : (d e : Data) (branch : List ℕ) (id : ℤ) (listed : List RefItem) → IsLong id → listed_refs_of d ≡ Ok listed → get (codes "refs") e ≡ Some (refs_after branch id (object_in (codes "refs") d)) → listed_refs_of e ≡ Ok (with_ref (branch_at branch id) listed)
+refs_then : (d e : Data) (branch : List ℕ) (id : ℤ) (listed : List RefItem) → IsLong id → listed_refs_of d ≡ Ok listed
+    → get (codes "refs") e ≡ Some (refs_after branch id (object_in (codes "refs") d))
+    → listed_refs_of e ≡ Ok (with_ref (branch_at branch id) listed)
 unfolding object_in
 refs_then d e branch id listed long h k = on_option (members_at (codes "refs") d) e branch id listed long (old_refs d listed h) k
 
-pub listed_refs-after_snapshot : (branch : List ℕ) (s : Snapshot) (writer : List ℕ) (now : ℤ) (d : Data) (listed : List RefItem) → IsSome (as_object d) → IsLong s.id → listed_refs_of d ≡ Ok listed → listed_refs_of (after_snapshot branch s writer now d) ≡ Ok (with_ref (branch_at branch s.id) listed)
+pub listed_refs-after_snapshot : (branch : List ℕ) (s : Snapshot) (writer : List ℕ) (now : ℤ) (d : Data) (listed : List RefItem)
+    → IsSome (as_object d) → IsLong s.id → listed_refs_of d ≡ Ok listed
+    → listed_refs_of (after_snapshot branch s writer now d) ≡ Ok (with_ref (branch_at branch s.id) listed)
 listed_refs-after_snapshot branch s writer now d listed is long h = refs_then d _ branch s.id listed long h (refs-after_snapshot branch s writer now d is)
 
 -- ---- with the implied `main`
@@ -122,11 +136,13 @@ abbrev placed : RefItem → List RefItem → List RefItem
 placed m [] = m ∷ []
 placed m (x ∷ xs) = cond (is_lt (text_cmp x.name m.name)) (x ∷ placed m xs) (m ∷ x ∷ xs)
 
-inserted : (b : Bool) (m x : RefItem) (xs : List RefItem) → insert xs (before_main xs) m ≡ placed m xs → insert (x ∷ xs) (cond b (suc (before_main xs)) 0) m ≡ cond b (x ∷ placed m xs) (m ∷ x ∷ xs)
+inserted : (b : Bool) (m x : RefItem) (xs : List RefItem) → insert xs (before_main xs) m ≡ placed m xs
+    → insert (x ∷ xs) (cond b (suc (before_main xs)) 0) m ≡ cond b (x ∷ placed m xs) (m ∷ x ∷ xs)
 inserted true m x xs h = ap (λ (l : List RefItem). x ∷ l) h
 inserted false m x xs h = refl
 
-insert-placed : (id : ℤ) (xs : List RefItem) → insert xs (before_main xs) (record { name = codes "main"; snapshot = id; tag = false }) ≡ placed (record { name = codes "main"; snapshot = id; tag = false }) xs
+insert-placed : (id : ℤ) (xs : List RefItem) → insert xs (before_main xs)
+    (record { name = codes "main"; snapshot = id; tag = false }) ≡ placed (record { name = codes "main"; snapshot = id; tag = false }) xs
 unfolding before_main
 insert-placed id [] = refl
 insert-placed id (x ∷ xs) = inserted (is_before_main x) (record { name = codes "main"; snapshot = id; tag = false }) x xs (insert-placed id xs)
@@ -141,7 +157,8 @@ later_is_greater k l m h e =
     let second : text_cmp m l ≡ Less = nat_list_cmp_total.antisymm m l ∙ ap ordering_reverse e in
     nat_list_cmp_total.antisymm k m ∙ ap ordering_reverse (nat_list_cmp_total.trans m l k second first)
 
-commute_at : (o p q : Ordering) (r m x : RefItem) (xs : List RefItem) → text_cmp r.name x.name ≡ o → text_cmp x.name m.name ≡ p → text_cmp r.name m.name ≡ q → is_eq p ≡ false → is_eq q ≡ false
+commute_at : (o p q : Ordering) (r m x : RefItem) (xs : List RefItem) → text_cmp r.name x.name ≡ o → text_cmp x.name m.name ≡ p
+    → text_cmp r.name m.name ≡ q → is_eq p ≡ false → is_eq q ≡ false
     → with_ref r (placed m xs) ≡ placed m (with_ref r xs) → with_ref r (placed m (x ∷ xs)) ≡ placed m (with_ref r (x ∷ xs))
 unfolding with_ref
 commute_at o Equal q r m x xs a b c h k later = cc
@@ -183,7 +200,9 @@ replaced r m (x ∷ xs) e w = replaced_at _ r m x xs e refl w.0 (replaced r m xs
 tied_main : (r : RefItem) → is_main r ≡ true → text_cmp r.name (codes "main") ≡ Equal
 tied_main r e = rw ((bytes_eq-Decides r.name (codes "main")).0 e) refl
 
-lists_kept_at : (o : Ordering) (r x : RefItem) (xs : List RefItem) → text_cmp r.name x.name ≡ o → is_main r ≡ false → lists_main (with_ref r xs) ≡ lists_main xs → lists_main (match_ordering o (r ∷ x ∷ xs) (r ∷ xs) (x ∷ with_ref r xs)) ≡ lists_main (x ∷ xs)
+lists_kept_at : (o : Ordering) (r x : RefItem) (xs : List RefItem) → text_cmp r.name x.name ≡ o → is_main r ≡ false
+    → lists_main (with_ref r xs) ≡ lists_main xs → lists_main (match_ordering o (r ∷ x ∷ xs) (r ∷ xs)
+    (x ∷ with_ref r xs)) ≡ lists_main (x ∷ xs)
 lists_kept_at Less r x xs e h later = rw h refl
 lists_kept_at Equal r x xs e h later = ap (λ (n : List ℕ). is_main_name n || lists_main xs) (one_text r.name x.name e)
 lists_kept_at Greater r x xs e h later = ap (λ b. is_main x || b) later
@@ -197,7 +216,8 @@ or_true : (b : Bool) → (b || true) ≡ true
 or_true true = refl
 or_true false = refl
 
-lists_it_at : (o : Ordering) (r x : RefItem) (xs : List RefItem) → is_main r ≡ true → lists_main (with_ref r xs) ≡ true → lists_main (match_ordering o (r ∷ x ∷ xs) (r ∷ xs) (x ∷ with_ref r xs)) ≡ true
+lists_it_at : (o : Ordering) (r x : RefItem) (xs : List RefItem) → is_main r ≡ true → lists_main (with_ref r xs) ≡ true
+    → lists_main (match_ordering o (r ∷ x ∷ xs) (r ∷ xs) (x ∷ with_ref r xs)) ≡ true
 lists_it_at Less r x xs h later = rw h refl
 lists_it_at Equal r x xs h later = rw h refl
 lists_it_at Greater r x xs h later = rw later (or_true (is_main x))
@@ -216,14 +236,16 @@ without_main id [] h = tt
 without_main id (x ∷ xs) h =
     let no = neither (is_main x) (lists_main xs) h in (is_eq-slice_cmp x.name (codes "main") ∙ no.0, without_main id xs no.1)
 
-implied_replaced : (r : RefItem) (current : Option ℤ) (xs : List RefItem) → is_main r ≡ true → lists_main xs ≡ false → with_ref r (with_main current xs) ≡ with_ref r xs
+implied_replaced : (r : RefItem) (current : Option ℤ) (xs : List RefItem) → is_main r ≡ true → lists_main xs ≡ false
+    → with_ref r (with_main current xs) ≡ with_ref r xs
 unfolding with_main
 implied_replaced r None xs e h = refl
 implied_replaced r (Some id) xs e h =
     ap (with_ref r) (insert-placed id xs)
     ∙ replaced r (branch_at (codes "main") id) xs (tied_main r e) (without_main id xs h)
 
-implied_kept : (r : RefItem) (current : Option ℤ) (xs : List RefItem) → is_main r ≡ false → lists_main xs ≡ false → with_main current (with_ref r xs) ≡ with_ref r (with_main current xs)
+implied_kept : (r : RefItem) (current : Option ℤ) (xs : List RefItem) → is_main r ≡ false → lists_main xs ≡ false
+    → with_main current (with_ref r xs) ≡ with_ref r (with_main current xs)
 unfolding with_main
 implied_kept r None xs e h = refl
 implied_kept r (Some id) xs e h =
@@ -231,7 +253,8 @@ implied_kept r (Some id) xs e h =
     ∙ sym (commute r (branch_at (codes "main") id) xs (is_eq-slice_cmp r.name (codes "main") ∙ e) (without_main id xs h))
     ∙ ap (with_ref r) (sym (insert-placed id xs))
 
-main_either : (b : Bool) (r : RefItem) (current : Option ℤ) (xs : List RefItem) → lists_main xs ≡ b → is_main r ≡ true → with_ref r xs ≡ with_ref r (cond b xs (with_main current xs))
+main_either : (b : Bool) (r : RefItem) (current : Option ℤ) (xs : List RefItem) → lists_main xs ≡ b → is_main r ≡ true
+    → with_ref r xs ≡ with_ref r (cond b xs (with_main current xs))
 main_either true r current xs h e = refl
 main_either false r current xs h e = sym (implied_replaced r current xs e h)
 
@@ -239,7 +262,8 @@ after_main : (r : RefItem) (current later : Option ℤ) (xs : List RefItem) → 
 unfolding all_refs
 after_main r current later xs e = rw (lists_it r xs e) (main_either (lists_main xs) r current xs refl e)
 
-other_either : (b : Bool) (r : RefItem) (current : Option ℤ) (xs : List RefItem) → lists_main xs ≡ b → is_main r ≡ false → cond b (with_ref r xs) (with_main current (with_ref r xs)) ≡ with_ref r (cond b xs (with_main current xs))
+other_either : (b : Bool) (r : RefItem) (current : Option ℤ) (xs : List RefItem) → lists_main xs ≡ b → is_main r ≡ false
+    → cond b (with_ref r xs) (with_main current (with_ref r xs)) ≡ with_ref r (cond b xs (with_main current xs))
 other_either true r current xs h e = refl
 other_either false r current xs h e = implied_kept r current xs e h
 
@@ -247,11 +271,15 @@ after_other : (r : RefItem) (current : Option ℤ) (xs : List RefItem) → is_ma
 unfolding all_refs
 after_other r current xs e = rw (lists_kept r xs e) (other_either (lists_main xs) r current xs refl e)
 
-after_either : (b : Bool) (branch : List ℕ) (id : ℤ) (current : Option ℤ) (listed : List RefItem) → is_main_name branch ≡ b → all_refs (cond b (Some id) current) (with_ref (branch_at branch id) listed) ≡ with_ref (branch_at branch id) (all_refs current listed)
+after_either : (b : Bool) (branch : List ℕ) (id : ℤ) (current : Option ℤ) (listed : List RefItem) → is_main_name branch ≡ b
+    → all_refs (cond b (Some id) current) (with_ref (branch_at branch id) listed) ≡ with_ref (branch_at branch id)
+    (all_refs current listed)
 after_either true branch id current listed e = after_main (branch_at branch id) current (Some id) listed e
 after_either false branch id current listed e = after_other (branch_at branch id) current listed e
 
-all_refs-after : (branch : List ℕ) (id : ℤ) (current : Option ℤ) (listed : List RefItem) → all_refs (current_after branch id current) (with_ref (branch_at branch id) listed) ≡ with_ref (branch_at branch id) (all_refs current listed)
+all_refs-after : (branch : List ℕ) (id : ℤ) (current : Option ℤ) (listed : List RefItem)
+    → all_refs (current_after branch id current) (with_ref (branch_at branch id) listed) ≡ with_ref (branch_at branch id)
+    (all_refs current listed)
 all_refs-after branch id current listed = after_either (is_main_name branch) branch id current listed refl
 
 -- ---- that they hold
@@ -272,7 +300,8 @@ each_holds current snapshots (r ∷ rs) h =
 then_holds : (f : MetadataFault) (b : Bool) (t : Result ⊤ MetadataFault) → b ≡ true → t ≡ Ok tt → (fault_if f (not b) >>= λ _. t) ≡ Ok tt
 then_holds f b t h k = rw h k
 
-all_hold-each : (current : Option ℤ) (snapshots : List Snapshot) (refs : List RefItem) → AllHold current snapshots refs → all_hold current snapshots refs ≡ Ok tt
+all_hold-each : (current : Option ℤ) (snapshots : List Snapshot) (refs : List RefItem) → AllHold current snapshots refs
+    → all_hold current snapshots refs ≡ Ok tt
 unfolding all_hold
 all_hold-each current snapshots [] h = refl
 all_hold-each current snapshots (r ∷ rs) h = then_holds (fault.Ref r.name) (holds current snapshots r) (all_hold current snapshots rs) h.0 (all_hold-each current snapshots rs h.1)
@@ -306,10 +335,12 @@ if_main false c f = refl
 current_at : (b : Bool) (id : ℤ) (current : Option ℤ) → b ≡ true → is_current (cond b (Some id) current) id ≡ true
 current_at b id current h = rw h (int_eq_equiv.refl id)
 
-branch_holds : (branch : List ℕ) (current : Option ℤ) (all : List Snapshot) (s : Snapshot) → holds (current_after branch s.id current) (all ++ s ∷ []) (branch_at branch s.id) ≡ true
+branch_holds : (branch : List ℕ) (current : Option ℤ) (all : List Snapshot) (s : Snapshot)
+    → holds (current_after branch s.id current) (all ++ s ∷ []) (branch_at branch s.id) ≡ true
 branch_holds branch current all s = rw (now_there all s) (if_main (is_main_name branch) _ (current_at (is_main_name branch) s.id current))
 
-one_holds : (P : RefItem → Type 0) (o : Ordering) (a b c : List RefItem) → AllByRecursion P a → AllByRecursion P b → AllByRecursion P c → AllByRecursion P (match_ordering o a b c)
+one_holds : (P : RefItem → Type 0) (o : Ordering) (a b c : List RefItem) → AllByRecursion P a → AllByRecursion P b
+    → AllByRecursion P c → AllByRecursion P (match_ordering o a b c)
 one_holds P Less a b c x y z = x
 one_holds P Equal a b c x y z = y
 one_holds P Greater a b c x y z = z
@@ -328,26 +359,34 @@ abbrev names_of : List RefItem → List (List ℕ)
 names_of refs = map (λ r. r.name) refs
 
 -- those above a name become what those of other names do
-above_become : (P Q : RefItem → Type 0) (k : List ℕ) (xs : List RefItem) → ((x : RefItem) → is_eq (text_cmp k x.name) ≡ false → P x → Q x) → AllByRecursion (λ n. text_cmp k n ≡ Less) (names_of xs) → AllByRecursion P xs → AllByRecursion Q xs
+above_become : (P Q : RefItem → Type 0) (k : List ℕ) (xs : List RefItem)
+    → ((x : RefItem) → is_eq (text_cmp k x.name) ≡ false → P x → Q x) → AllByRecursion (λ n. text_cmp k n ≡ Less) (names_of xs)
+    → AllByRecursion P xs → AllByRecursion Q xs
 above_become P Q k [] f s a = tt
 above_become P Q k (x ∷ xs) f s a = (f x (ap is_eq s.0) a.0, above_become P Q k xs f s.1 a.1)
 
-all_later : (k l : List ℕ) (ns : List (List ℕ)) → text_cmp k l ≡ Less → AllByRecursion (λ n. text_cmp l n ≡ Less) ns → AllByRecursion (λ n. text_cmp k n ≡ Less) ns
+all_later : (k l : List ℕ) (ns : List (List ℕ)) → text_cmp k l ≡ Less → AllByRecursion (λ n. text_cmp l n ≡ Less) ns
+    → AllByRecursion (λ n. text_cmp k n ≡ Less) ns
 all_later k l [] h a = tt
 all_later k l (n ∷ ns) h a = (nat_list_cmp_total.trans k l n h a.0, all_later k l ns h a.1)
 
-all_tied : (k l : List ℕ) (ns : List (List ℕ)) → text_cmp k l ≡ Equal → AllByRecursion (λ n. text_cmp l n ≡ Less) ns → AllByRecursion (λ n. text_cmp k n ≡ Less) ns
+all_tied : (k l : List ℕ) (ns : List (List ℕ)) → text_cmp k l ≡ Equal → AllByRecursion (λ n. text_cmp l n ≡ Less) ns
+    → AllByRecursion (λ n. text_cmp k n ≡ Less) ns
 all_tied k l [] h a = tt
 all_tied k l (n ∷ ns) h a = (nat_list_cmp_total.congr k l n h ∙ a.0, all_tied k l ns h a.1)
 
-replaced_holds_at : (P Q : RefItem → Type 0) (o : Ordering) (r x : RefItem) (xs : List RefItem) → text_cmp r.name x.name ≡ o → ((y : RefItem) → is_eq (text_cmp r.name y.name) ≡ false → P y → Q y) → Q r → AllByRecursion (λ n. text_cmp x.name n ≡ Less) (names_of xs) → P x × AllByRecursion P xs → AllByRecursion Q (with_ref r xs)
+replaced_holds_at : (P Q : RefItem → Type 0) (o : Ordering) (r x : RefItem) (xs : List RefItem) → text_cmp r.name x.name ≡ o
+    → ((y : RefItem) → is_eq (text_cmp r.name y.name) ≡ false → P y → Q y) → Q r
+    → AllByRecursion (λ n. text_cmp x.name n ≡ Less) (names_of xs) → P x × AllByRecursion P xs → AllByRecursion Q (with_ref r xs)
     → AllByRecursion Q (match_ordering o (r ∷ x ∷ xs) (r ∷ xs) (x ∷ with_ref r xs))
 replaced_holds_at P Q Less r x xs e f h s a later = (h, (f x (ap is_eq e) a.0, above_become P Q r.name xs f (all_later r.name x.name (names_of xs) e s) a.1))
 replaced_holds_at P Q Equal r x xs e f h s a later = (h, above_become P Q r.name xs f (all_tied r.name x.name (names_of xs) e s) a.1)
 replaced_holds_at P Q Greater r x xs e f h s a later = (f x (ap is_eq e) a.0, later)
 
 -- refs in order, of which one is replaced
-replaced_holds : (P Q : RefItem → Type 0) (r : RefItem) (xs : List RefItem) → ((y : RefItem) → is_eq (text_cmp r.name y.name) ≡ false → P y → Q y) → Q r → AreInOrder xs → AllByRecursion P xs → AllByRecursion Q (with_ref r xs)
+replaced_holds : (P Q : RefItem → Type 0) (r : RefItem) (xs : List RefItem)
+    → ((y : RefItem) → is_eq (text_cmp r.name y.name) ≡ false → P y → Q y) → Q r → AreInOrder xs → AllByRecursion P xs
+    → AllByRecursion Q (with_ref r xs)
 unfolding with_ref IsStrictlySortedBy
 replaced_holds P Q r [] f h s a = (h, tt)
 replaced_holds P Q r (x ∷ xs) f h s a = replaced_holds_at P Q (text_cmp r.name x.name) r x xs refl f h s.0 a (replaced_holds P Q r xs f h s.1 a.1)
@@ -365,33 +404,43 @@ other_than_main branch x e h =
     let same : branch ≡ codes "main" = (bytes_eq-Decides branch (codes "main")).0 e in
     sym (is_eq-slice_cmp x.name (codes "main")) ∙ turned_equal x.name (codes "main") (subst (λ (n : List ℕ). is_eq (text_cmp n x.name) ≡ false) same h)
 
-after_main_hold : (branch : List ℕ) (current : Option ℤ) (all : List Snapshot) (s : Snapshot) (refs : List RefItem) → is_main_name branch ≡ true → AreInOrder refs → AllHold current all refs → holds (Some s.id) (all ++ s ∷ []) (branch_at branch s.id) ≡ true → AllHold (Some s.id) (all ++ s ∷ []) (with_ref (branch_at branch s.id) refs)
+after_main_hold : (branch : List ℕ) (current : Option ℤ) (all : List Snapshot) (s : Snapshot) (refs : List RefItem)
+    → is_main_name branch ≡ true → AreInOrder refs → AllHold current all refs
+    → holds (Some s.id) (all ++ s ∷ []) (branch_at branch s.id) ≡ true
+    → AllHold (Some s.id) (all ++ s ∷ []) (with_ref (branch_at branch s.id) refs)
 after_main_hold branch current all s refs e order a h =
     replaced_holds (λ r. holds current all r ≡ true) (λ r. holds (Some s.id) (all ++ s ∷ []) r ≡ true) (branch_at branch s.id) refs
     (λ y other k. other_current current (Some s.id) (all ++ s ∷ []) y (other_than_main branch y e other) (holds_more current all s y k)) h order a
 
-after_other_hold : (branch : List ℕ) (current : Option ℤ) (all : List Snapshot) (s : Snapshot) (refs : List RefItem) → AllHold current all refs → holds current (all ++ s ∷ []) (branch_at branch s.id) ≡ true → AllHold current (all ++ s ∷ []) (with_ref (branch_at branch s.id) refs)
+after_other_hold : (branch : List ℕ) (current : Option ℤ) (all : List Snapshot) (s : Snapshot) (refs : List RefItem)
+    → AllHold current all refs → holds current (all ++ s ∷ []) (branch_at branch s.id) ≡ true
+    → AllHold current (all ++ s ∷ []) (with_ref (branch_at branch s.id) refs)
 after_other_hold branch current all s refs a h =
     put_holds (λ r. holds current (all ++ s ∷ []) r ≡ true) (branch_at branch s.id) refs h
     (each_becomes (λ r. holds current all r ≡ true) (λ r. holds current (all ++ s ∷ []) r ≡ true) refs (λ x k. holds_more current all s x k) a)
 
-after_either_hold : (b : Bool) (branch : List ℕ) (current : Option ℤ) (all : List Snapshot) (s : Snapshot) (refs : List RefItem) → is_main_name branch ≡ b → AreInOrder refs → AllHold current all refs → holds (cond b (Some s.id) current) (all ++ s ∷ []) (branch_at branch s.id) ≡ true
+after_either_hold : (b : Bool) (branch : List ℕ) (current : Option ℤ) (all : List Snapshot) (s : Snapshot) (refs : List RefItem)
+    → is_main_name branch ≡ b → AreInOrder refs → AllHold current all refs
+    → holds (cond b (Some s.id) current) (all ++ s ∷ []) (branch_at branch s.id) ≡ true
     → AllHold (cond b (Some s.id) current) (all ++ s ∷ []) (with_ref (branch_at branch s.id) refs)
 after_either_hold true branch current all s refs e order a h = after_main_hold branch current all s refs e order a h
 after_either_hold false branch current all s refs e order a h = after_other_hold branch current all s refs a h
 
-kept_holds : (current : Option ℤ) (all : List Snapshot) (listed refs : List RefItem) → refs_of current all listed ≡ Ok refs → (all_refs current listed ≡ refs) × AllHold current all refs
+kept_holds : (current : Option ℤ) (all : List Snapshot) (listed refs : List RefItem) → refs_of current all listed ≡ Ok refs
+    → (all_refs current listed ≡ refs) × AllHold current all refs
 unfolding refs_of
 kept_holds current all listed refs h =
     let s = two_steps (all_hold current all (all_refs current listed)) _ refs h in
     let e : all_refs current listed ≡ refs = one_value _ refs _ refl s.2 in
     (e, subst (AllHold current all) e (each_holds current all _ s.1))
 
-refs_from_hold : (current : Option ℤ) (all : List Snapshot) (listed refs : List RefItem) → all_refs current listed ≡ refs → AllHold current all refs → refs_of current all listed ≡ Ok refs
+refs_from_hold : (current : Option ℤ) (all : List Snapshot) (listed refs : List RefItem) → all_refs current listed ≡ refs
+    → AllHold current all refs → refs_of current all listed ≡ Ok refs
 unfolding refs_of
 refs_from_hold current all listed refs e a = rw (e, all_hold-each current all refs a) refl
 
-pub refs-after_snapshot_hold : (branch : List ℕ) (s : Snapshot) (current : Option ℤ) (all : List Snapshot) (listed refs : List RefItem) → AreInOrder refs → refs_of current all listed ≡ Ok refs
+pub refs-after_snapshot_hold : (branch : List ℕ) (s : Snapshot) (current : Option ℤ) (all : List Snapshot)
+    (listed refs : List RefItem) → AreInOrder refs → refs_of current all listed ≡ Ok refs
     → refs_of (current_after branch s.id current) (all ++ s ∷ []) (with_ref (branch_at branch s.id) listed) ≡ Ok (with_ref (branch_at branch s.id) refs)
 refs-after_snapshot_hold branch s current all listed refs order h =
     let k = kept_holds current all listed refs h in

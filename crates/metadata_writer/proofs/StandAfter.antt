@@ -7,7 +7,7 @@ use Rattle.serde_json.specs.Data.{Data, Items, no_items, item, Members, no_membe
 use Rattle.serde_json.specs.Find.{get, as_object}
 use Rattle.table_metadata.specs.declared.snapshots.Snapshot.{Snapshot}
 use Rattle.table_metadata.specs.declared.metadata_fault.MetadataFault.{MetadataFault}
-use Rattle.table_metadata.specs.Keys.{items_at, members_at}
+use Rattle.iceberg_schema.specs.Keys.{items_at, members_at}
 use Rattle.table_metadata.specs.MissingKeys.{keys_stand, listed_refs_stand, listed_snapshots_stand, needs, ref_keys_stand, refs_stand, snapshot_keys_stand, snapshots_stand, table_keys_stand, version_fits}
 use Rattle.plain_types.specs.Steps.{◌>>=◌, by_option}
 use Rattle.metadata_writer.specs.Commit.{after_snapshot, and_item, branch_data, items_in, long_data, needed_keys, number_keys, object_in, refs_after, snapshot_data, summary_data, with_key}
@@ -25,7 +25,8 @@ after_first (Err e) s h = cc
 
 -- ---- the snapshots
 
-snapshot_at : (id seq time : ℤ) (list operation : List ℕ) (parent schema : Option ℤ) → snapshot_keys_stand (snapshot_data (record { id = id; parent = parent; seq = seq; timestamp_ms = time; list = list; operation = operation; schema = schema })) ≡ Ok tt
+snapshot_at : (id seq time : ℤ) (list operation : List ℕ) (parent schema : Option ℤ)
+    → snapshot_keys_stand (snapshot_data (record { id = id; parent = parent; seq = seq; timestamp_ms = time; list = list; operation = operation; schema = schema })) ≡ Ok tt
 unfolding snapshot_keys_stand snapshot_data needed_keys number_keys summary_data with_key
 snapshot_at id seq time list operation None None = refl
 snapshot_at id seq time list operation None (Some m) = refl
@@ -50,14 +51,17 @@ items_in-stand : (d : Data) → listed_snapshots_stand d ≡ Ok tt → snapshots
 unfolding listed_snapshots_stand items_in
 items_in-stand d h = old_ones (items_at (codes "snapshots") d) h
 
-pub snapshots_stand-after_snapshot : (branch : List ℕ) (s : Snapshot) (writer : List ℕ) (now : ℤ) (d : Data) → IsSome (as_object d) → listed_snapshots_stand d ≡ Ok tt → listed_snapshots_stand (after_snapshot branch s writer now d) ≡ Ok tt
+pub snapshots_stand-after_snapshot : (branch : List ℕ) (s : Snapshot) (writer : List ℕ) (now : ℤ) (d : Data)
+    → IsSome (as_object d) → listed_snapshots_stand d ≡ Ok tt
+    → listed_snapshots_stand (after_snapshot branch s writer now d) ≡ Ok tt
 snapshots_stand-after_snapshot branch s writer now d is h =
     listed _ _ (snapshots-after_snapshot branch s writer now d is)
     ∙ stand_and_item (snapshot_data s) _ (snapshot_at s.id s.seq s.timestamp_ms s.list s.operation s.parent s.schema) (items_in-stand d h)
 
 -- ---- the refs
 
-one_of_stands : (o : Ordering) (a b c : Members) → refs_stand a ≡ Ok tt → refs_stand b ≡ Ok tt → refs_stand c ≡ Ok tt → refs_stand (match_ordering o a b c) ≡ Ok tt
+one_of_stands : (o : Ordering) (a b c : Members) → refs_stand a ≡ Ok tt → refs_stand b ≡ Ok tt → refs_stand c ≡ Ok tt
+    → refs_stand (match_ordering o a b c) ≡ Ok tt
 one_of_stands Less a b c x y z = x
 one_of_stands Equal a b c x y z = y
 one_of_stands Greater a b c x y z = z
@@ -70,7 +74,8 @@ rest_stands : (l : List ℕ) (e : Data) (ms : Members) → refs_stand (member l 
 unfolding refs_stand
 rest_stands l e ms h = after_first (ref_keys_stand e) (refs_stand ms) h
 
-other_stands : (l : List ℕ) (e : Data) (ms ns : Members) → refs_stand (member l e ms) ≡ Ok tt → (refs_stand ms ≡ Ok tt → refs_stand ns ≡ Ok tt) → refs_stand (member l e ns) ≡ Ok tt
+other_stands : (l : List ℕ) (e : Data) (ms ns : Members) → refs_stand (member l e ms) ≡ Ok tt
+    → (refs_stand ms ≡ Ok tt → refs_stand ns ≡ Ok tt) → refs_stand (member l e ns) ≡ Ok tt
 unfolding refs_stand
 other_stands l e ms ns h k = first_stands (ref_keys_stand e) (refs_stand ms) (refs_stand ns) h k
 
@@ -92,17 +97,20 @@ none_stand : refs_stand no_members ≡ Ok tt
 unfolding refs_stand
 none_stand = refl
 
-refs_at : (e : Data) (branch : List ℕ) (v : Data) (ms : Members) → get (codes "refs") e ≡ Some (with_key branch v (object ms)) → listed_refs_stand e ≡ refs_stand (put branch v ms)
+refs_at : (e : Data) (branch : List ℕ) (v : Data) (ms : Members) → get (codes "refs") e ≡ Some (with_key branch v (object ms))
+    → listed_refs_stand e ≡ refs_stand (put branch v ms)
 unfolding listed_refs_stand with_key
 refs_at e branch v ms h = rw h refl
 
-branch_on : (e : Data) (branch : List ℕ) (id : ℤ) (ms : Members) → refs_stand ms ≡ Ok tt → get (codes "refs") e ≡ Some (refs_after branch id (object ms)) → listed_refs_stand e ≡ Ok tt
+branch_on : (e : Data) (branch : List ℕ) (id : ℤ) (ms : Members) → refs_stand ms ≡ Ok tt
+    → get (codes "refs") e ≡ Some (refs_after branch id (object ms)) → listed_refs_stand e ≡ Ok tt
 unfolding refs_after
 branch_on e branch id ms w h =
     refs_at e branch (branch_data id (object_in branch (object ms))) ms h
     ∙ put_stands branch (branch_data id (object_in branch (object ms))) ms (branch_stands id _ (object-object_in branch (object ms))) w
 
-on_option : (o : Option Members) (e : Data) (branch : List ℕ) (id : ℤ) → by_option o refs_stand (Ok tt) ≡ Ok tt → get (codes "refs") e ≡ Some (refs_after branch id (by_option o object (object no_members))) → listed_refs_stand e ≡ Ok tt
+on_option : (o : Option Members) (e : Data) (branch : List ℕ) (id : ℤ) → by_option o refs_stand (Ok tt) ≡ Ok tt
+    → get (codes "refs") e ≡ Some (refs_after branch id (by_option o object (object no_members))) → listed_refs_stand e ≡ Ok tt
 on_option None e branch id h k = branch_on e branch id no_members none_stand k
 on_option (Some ms) e branch id h k = branch_on e branch id ms h k
 
@@ -110,11 +118,13 @@ old_refs : (d : Data) → listed_refs_stand d ≡ Ok tt → by_option (members_a
 unfolding listed_refs_stand
 old_refs d h = h
 
-refs_then : (d e : Data) (branch : List ℕ) (id : ℤ) → listed_refs_stand d ≡ Ok tt → get (codes "refs") e ≡ Some (refs_after branch id (object_in (codes "refs") d)) → listed_refs_stand e ≡ Ok tt
+refs_then : (d e : Data) (branch : List ℕ) (id : ℤ) → listed_refs_stand d ≡ Ok tt
+    → get (codes "refs") e ≡ Some (refs_after branch id (object_in (codes "refs") d)) → listed_refs_stand e ≡ Ok tt
 unfolding object_in
 refs_then d e branch id h k = on_option (members_at (codes "refs") d) e branch id (old_refs d h) k
 
-pub refs_stand-after_snapshot : (branch : List ℕ) (s : Snapshot) (writer : List ℕ) (now : ℤ) (d : Data) → IsSome (as_object d) → listed_refs_stand d ≡ Ok tt → listed_refs_stand (after_snapshot branch s writer now d) ≡ Ok tt
+pub refs_stand-after_snapshot : (branch : List ℕ) (s : Snapshot) (writer : List ℕ) (now : ℤ) (d : Data) → IsSome (as_object d)
+    → listed_refs_stand d ≡ Ok tt → listed_refs_stand (after_snapshot branch s writer now d) ≡ Ok tt
 refs_stand-after_snapshot branch s writer now d is h = refs_then d _ branch s.id h (refs-after_snapshot branch s writer now d is)
 
 -- ---- the table's own keys
@@ -133,7 +143,8 @@ same_version : (d e : Data) → get (codes "format-version") e ≡ get (codes "f
 unfolding version_fits
 same_version d e same h = rw same h
 
-pub table_keys_stand-after_snapshot : (branch : List ℕ) (s : Snapshot) (writer : List ℕ) (now : ℤ) (d : Data) → IsSome (as_object d) → table_keys_stand d ≡ Ok tt → table_keys_stand (after_snapshot branch s writer now d) ≡ Ok tt
+pub table_keys_stand-after_snapshot : (branch : List ℕ) (s : Snapshot) (writer : List ℕ) (now : ℤ) (d : Data)
+    → IsSome (as_object d) → table_keys_stand d ≡ Ok tt → table_keys_stand (after_snapshot branch s writer now d) ≡ Ok tt
 unfolding table_keys_stand
 table_keys_stand-after_snapshot branch s writer now d is h =
     let e = after_snapshot branch s writer now d in
@@ -148,7 +159,8 @@ table_keys_stand-after_snapshot branch s writer now d is h =
     both_stand _ _ _ _ h8 (same_need (codes "default-spec-id") d e (stays branch s writer now d (codes "default-spec-id") refl refl refl refl refl refl refl)) (λ h9.
     same_need (codes "last-partition-id") d e (stays branch s writer now d (codes "last-partition-id") refl refl refl refl refl refl refl) h9)))))))))
 
-pub keys_stand-after_snapshot : (branch : List ℕ) (s : Snapshot) (writer : List ℕ) (now : ℤ) (d : Data) → IsSome (as_object d) → keys_stand d ≡ Ok tt → keys_stand (after_snapshot branch s writer now d) ≡ Ok tt
+pub keys_stand-after_snapshot : (branch : List ℕ) (s : Snapshot) (writer : List ℕ) (now : ℤ) (d : Data) → IsSome (as_object d)
+    → keys_stand d ≡ Ok tt → keys_stand (after_snapshot branch s writer now d) ≡ Ok tt
 unfolding keys_stand
 keys_stand-after_snapshot branch s writer now d is h =
     let e = after_snapshot branch s writer now d in

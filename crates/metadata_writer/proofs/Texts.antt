@@ -36,7 +36,8 @@ whole_object-parts : (e d : Data) → whole_object e ≡ Ok d → IsSome (as_obj
 unfolding whole_object
 whole_object-parts e d h = whole_at (is_some (as_object e)) (has_float e) e d h
 
-writable_at : (u : Bool) (r : Option Data) (d : Data) → ((e : Data) → r ≡ Some e → depth e ≤ max_depth) → cond u (by_option r whole_object (Err fault.Json)) (Err fault.Json) ≡ Ok d → IsWritable d
+writable_at : (u : Bool) (r : Option Data) (d : Data) → ((e : Data) → r ≡ Some e → depth e ≤ max_depth)
+    → cond u (by_option r whole_object (Err fault.Json)) (Err fault.Json) ≡ Ok d → IsWritable d
 writable_at true (Some e) d nests h =
     let w = whole_object-parts e d h in
     rw (← w.2) (record { object = w.0; whole = w.1; nests = nests e refl })
@@ -52,7 +53,8 @@ unfolding metadata_of
 read_parts bytes d h = rw h refl
 
 -- the text of metadata that was read says the same
-pub metadata-written : (bytes text : List ℕ) (m : Metadata) → IsMetadataOf bytes m → (IsWritable (view m.json) → json_of text ≡ Ok (view m.json)) → IsMetadataOf text m
+pub metadata-written : (bytes text : List ℕ) (m : Metadata) → IsMetadataOf bytes m
+    → (IsWritable (view m.json) → json_of text ≡ Ok (view m.json)) → IsMetadataOf text m
 metadata-written bytes text m is back =
     let same = back (writable-read bytes (view m.json) is.json) in
     record { read = read_parts text (view m.json) same ∙ sym (read_parts bytes (view m.json) is.json) ∙ is.read; json = same }

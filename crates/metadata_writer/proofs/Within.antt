@@ -226,7 +226,8 @@ unfolding with_change
 change-within n writer now d w =
     with_key-within n (codes "dml-writer") _ _ (string-within n writer) (with_key-within n (codes "last-updated-ms") _ d (long-within n _) w)
 
-after-within : (n : ℕ) (branch : List ℕ) (s : Snapshot) (writer : List ℕ) (now : ℤ) (d : Data) → Within (suc (suc (suc (suc n)))) d → Within (suc (suc (suc (suc n)))) (after_snapshot branch s writer now d)
+after-within : (n : ℕ) (branch : List ℕ) (s : Snapshot) (writer : List ℕ) (now : ℤ) (d : Data)
+    → Within (suc (suc (suc (suc n)))) d → Within (suc (suc (suc (suc n)))) (after_snapshot branch s writer now d)
 unfolding after_snapshot
 after-within n branch s writer now d w =
     change-within (suc (suc (suc n))) writer now _ (current-within (suc n) branch s _ (branch_on-within (suc n) branch s.id _ (listed-within n s d w)))
@@ -242,7 +243,8 @@ unfolding with_current
 current-object branch s d is =
     either-object (is_main_name branch) _ d (object-with_item (codes "snapshot-log") _ _ (object-with_key (codes "current-snapshot-id") _ d is)) is
 
-after-object : (branch : List ℕ) (s : Snapshot) (writer : List ℕ) (now : ℤ) (d : Data) → IsSome (as_object d) → IsSome (as_object (after_snapshot branch s writer now d))
+after-object : (branch : List ℕ) (s : Snapshot) (writer : List ℕ) (now : ℤ) (d : Data) → IsSome (as_object d)
+    → IsSome (as_object (after_snapshot branch s writer now d))
 unfolding after_snapshot with_change with_branch_on with_snapshot_listed
 after-object branch s writer now d is =
     object-with_key (codes "dml-writer") _ _
@@ -251,7 +253,8 @@ after-object branch s writer now d is =
     (object-with_key (codes "refs") _ _
     (object-with_key (codes "last-sequence-number") _ _ (object-with_item (codes "snapshots") _ d is)))))
 
-pub writable-after_snapshot : (branch : List ℕ) (s : Snapshot) (writer : List ℕ) (now : ℤ) (d : Data) → IsWritable d → IsWritable (after_snapshot branch s writer now d)
+pub writable-after_snapshot : (branch : List ℕ) (s : Snapshot) (writer : List ℕ) (now : ℤ) (d : Data) → IsWritable d
+    → IsWritable (after_snapshot branch s writer now d)
 writable-after_snapshot branch s writer now d w =
     let after = after-within 123 branch s writer now d (record { whole = w.whole; nests = w.nests }) in
     record { object = after-object branch s writer now d w.object; whole = after.whole; nests = after.nests }

@@ -5,7 +5,7 @@ use Rattle.std.specs.Int.{int_max}
 use Rattle.serde_json.specs.Data.{Data, number, string, array, object, Items, no_items, item, no_members, put}
 use Rattle.serde_json.specs.Find.{as_object, of_integer}
 use Rattle.table_metadata.specs.declared.snapshots.Snapshot.{Snapshot}
-use Rattle.table_metadata.specs.Keys.{long_at, items_at, members_at}
+use Rattle.iceberg_schema.specs.Keys.{long_at, items_at, members_at}
 use Rattle.table_metadata.specs.References.{is_main_name}
 use Rattle.plain_types.specs.Steps.{by_option}
 

@@ -1,14 +1,7 @@
 -- A snapshot whose numbers have the widths of their keys.
-use Rattle.std.specs.Prelude.{◌≡◌, ◌^◌, ℤ, pos, int_lt, IsTrue, Some}
+use Rattle.std.specs.Prelude.{◌≡◌, ℤ, Some}
 use Rattle.table_metadata.specs.declared.snapshots.Snapshot.{Snapshot}
-use Rattle.table_metadata.specs.Keys.{in_int}
-
-abbrev pub IsLong : ℤ → Type 0
-IsLong n = IsTrue (int_lt n (pos (2 ^ 63)))
-
--- a number of 32 bits
-abbrev pub IsInt : ℤ → Type 0
-IsInt n = in_int n ≡ Some n
+use Rattle.iceberg_schema.specs.Widths.{IsInt, IsLong}
 
 pub record Fits (s : Snapshot) : Type 0 where
   pub id : IsLong s.id

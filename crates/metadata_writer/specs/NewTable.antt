@@ -9,11 +9,11 @@ use Rattle.table_metadata.specs.declared.properties.Properties.{Properties}
 use Rattle.table_metadata.specs.FieldIds.{field_ids_fit}
 use Rattle.table_metadata.specs.Metadata.{Parts}
 use Rattle.table_metadata.specs.Properties.{properties_of}
-use Rattle.table_metadata.specs.SchemaJson.{table_schema_of}
-use Rattle.table_metadata.specs.SpecJson.{spec_of}
+use Rattle.iceberg_schema.specs.SchemaJson.{table_schema_of}
+use Rattle.iceberg_schema.specs.SpecJson.{spec_of}
 use Rattle.table_metadata.specs.TableKeys.{is_uuid, properties_shape}
 use Rattle.metadata_writer.specs.Commit.{with_key, long_data}
-use Rattle.metadata_writer.specs.Fitting.{IsInt, IsLong}
+use Rattle.iceberg_schema.specs.Widths.{IsInt, IsLong}
 use Rattle.metadata_writer.specs.declared.new_table.NewTable.{NewTable}
 
 -- what a table is made of: the JSON of its schema, of the fields of its partition spec and of its properties, and the ids

@@ -8,7 +8,8 @@ use Rattle.table_metadata.specs.declared.references.RefItem.{RefItem}
 use Rattle.table_metadata.specs.declared.snapshots.Snapshot.{Snapshot}
 use Rattle.table_metadata.specs.Metadata.{Parts}
 use Rattle.table_metadata.specs.References.{has_snapshot, is_main_name}
-use Rattle.metadata_writer.specs.Fitting.{Fits, IsLong}
+use Rattle.metadata_writer.specs.Fitting.{Fits}
+use Rattle.iceberg_schema.specs.Widths.{IsLong}
 
 -- the refs, and this one at its place by its name's bytes, instead of the one that had its name
 unfoldable pub with_ref : RefItem → List RefItem → List RefItem

@@ -3,7 +3,21 @@ ghost use Rattle.std.specs.Prelude.{◌≡◌, ℕ, List, IfOk, Ok};
 ghost use Rattle.serde_json.specs.View.{view};
 ghost use Rattle.table_metadata.specs.Metadata.{IsMetadataOf, json_of, metadata_of, parts};
 ghost use Rattle.metadata_writer.specs.PartsAfter.{CanFollow, parts_after};
-ghost use Rattle.metadata_writer.specs.Commit.{after_snapshot, branch_data, log_line, needed_keys, number_keys, refs_after, snapshot_data, summary_data, time_after, with_branch_on, with_change, with_current, with_snapshot_listed};
+ghost use Rattle.metadata_writer.specs.Commit.{
+  after_snapshot,
+  branch_data,
+  log_line,
+  needed_keys,
+  number_keys,
+  refs_after,
+  snapshot_data,
+  summary_data,
+  time_after,
+  with_branch_on,
+  with_change,
+  with_current,
+  with_snapshot_listed,
+};
 
 use crate::edits::{
     empty_object, object_in, with_item, with_key, with_long, with_number, with_text,
@@ -41,8 +55,11 @@ pub fn text_with_snapshot(
     writer: &str,
     now_ms: i64,
 ) -> Result<Bytes, AllocError>
-    ensures json { IfOk result (λ text. (bytes : List ℕ) → IsMetadataOf bytes metadata.now → json_of text ≡ Ok (after_snapshot branch.now snapshot.now writer.now now_ms (view metadata.now.json))) }
-    ensures read { IfOk result (λ text. (bytes : List ℕ) → IsMetadataOf bytes metadata.now → CanFollow snapshot.now now_ms (parts metadata.now) → metadata_of text ≡ Ok (parts_after branch.now snapshot.now now_ms (parts metadata.now))) }
+    ensures json { IfOk result (λ text. (bytes : List ℕ) → IsMetadataOf bytes metadata.now
+        → json_of text ≡ Ok (after_snapshot branch.now snapshot.now writer.now now_ms (view metadata.now.json))) }
+    ensures read { IfOk result (λ text. (bytes : List ℕ) → IsMetadataOf bytes metadata.now
+        → CanFollow snapshot.now now_ms (parts metadata.now)
+        → metadata_of text ≡ Ok (parts_after branch.now snapshot.now now_ms (parts metadata.now))) }
 {
     let json = with_snapshot(alloc, metadata, branch, snapshot, writer, now_ms)?;
     text(alloc, &json)

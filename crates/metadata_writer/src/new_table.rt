@@ -2,7 +2,21 @@
 ghost use Rattle.std.specs.Prelude.{◌≡◌, IfOk};
 ghost use Rattle.serde_json.specs.Data.{array, no_items};
 ghost use Rattle.serde_json.specs.View.{view};
-ghost use Rattle.metadata_writer.specs.NewTable.{first_version, made, name_keys, one_item, order_data, order_keys, schema_keys, schema_list, spec_data, spec_keys, spec_list, time_keys, version_keys};
+ghost use Rattle.metadata_writer.specs.NewTable.{
+  first_version,
+  made,
+  name_keys,
+  one_item,
+  order_data,
+  order_keys,
+  schema_keys,
+  schema_list,
+  spec_data,
+  spec_keys,
+  spec_list,
+  time_keys,
+  version_keys,
+};
 
 use crate::edits::{empty_object, with_int, with_key, with_number, with_text};
 use plain_types::Text;

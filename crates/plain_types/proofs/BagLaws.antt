@@ -117,7 +117,8 @@ pub In-filter : {X : Type 0} (x : X) (test : X → Bool) (xs : List X) → In x 
 In-filter x test [] there = absurd there
 In-filter x test (y ∷ xs) there = by (test y) refl (λ later. In-filter x test xs later) there
   where
-    by : (b : Bool) → test y ≡ b → (In x (filter test xs) → In x xs × (test x ≡ true)) → In x (cond b (y ∷ filter test xs) (filter test xs)) → ((x ≡ y) ⊎ In x xs) × (test x ≡ true)
+    by : (b : Bool) → test y ≡ b → (In x (filter test xs) → In x xs × (test x ≡ true))
+        → In x (cond b (y ∷ filter test xs) (filter test xs)) → ((x ≡ y) ⊎ In x xs) × (test x ≡ true)
     by true passes found (inl here) = (inl here, ap test here ∙ passes)
     by true passes found (inr later) = (inr (found later).0, (found later).1)
     by false passes found later = (inr (found later).0, (found later).1)
@@ -186,7 +187,8 @@ Apart-filter same test (x ∷ xs) apart = by (test x) (Apart-filter same test xs
     by false rest = rest
 
 -- what no two alike among two lists joined says of each, and of one in the other
-pub Apart-append : {X : Type 0} (same : X → X → Bool) (xs ys : List X) → Apart same (xs ++ ys) → Apart same xs × Apart same ys × ((x : X) → In x xs → has same x ys ≡ false)
+pub Apart-append : {X : Type 0} (same : X → X → Bool) (xs ys : List X) → Apart same (xs ++ ys) → Apart same xs × Apart same ys
+    × ((x : X) → In x xs → has same x ys ≡ false)
 Apart-append same [] ys apart = (tt, apart, λ x there. absurd there)
 Apart-append {X} same (x ∷ xs) ys apart =
     let rest = Apart-append same xs ys apart.1 in
@@ -194,7 +196,8 @@ Apart-append {X} same (x ∷ xs) ys apart =
     ((parts.0, rest.0), rest.1, λ z. ⊎_elim (λ here. ap (λ w. has same w ys) here ∙ parts.1) (λ later. rest.2 z later))
 
 -- and back
-pub Apart-append_from : {X : Type 0} (same : X → X → Bool) (xs ys : List X) → Apart same xs → Apart same ys → ((x : X) → In x xs → has same x ys ≡ false) → Apart same (xs ++ ys)
+pub Apart-append_from : {X : Type 0} (same : X → X → Bool) (xs ys : List X) → Apart same xs → Apart same ys
+    → ((x : X) → In x xs → has same x ys ≡ false) → Apart same (xs ++ ys)
 Apart-append_from same [] ys first second between = second
 Apart-append_from same (x ∷ xs) ys first second between = (list_any-append (same x) xs ys ∙ or_from (has same x xs) (has same x ys) first.0 (between x (inl refl)), Apart-append_from same xs ys first.1 second (λ z later. between z (inr later)))
 
@@ -204,7 +207,8 @@ total-zero [] = refl
 total-zero (x ∷ xs) = omega (arith, total-zero xs)
 
 -- a double sum, the other way round
-pub total-total : {X Y : Type 0} (weight : X → Y → ℕ) (xs : List X) (ys : List Y) → total (λ x. total (λ y. weight x y) ys) xs ≡ total (λ y. total (λ x. weight x y) xs) ys
+pub total-total : {X Y : Type 0} (weight : X → Y → ℕ) (xs : List X) (ys : List Y)
+    → total (λ x. total (λ y. weight x y) ys) xs ≡ total (λ y. total (λ x. weight x y) xs) ys
 total-total weight [] ys = sym (total-zero ys)
 total-total weight (x ∷ xs) ys = omega (arith, total-total weight xs ys, total-plus (λ y. weight x y) (λ y. total (λ z. weight z y) xs) ys)
 
@@ -213,13 +217,15 @@ module _ {X : Type 0} {same : X → X → Bool} (tells : Tells same) where
   alike_once x n [] apart = refl
   alike_once x n (y ∷ ys) apart = by (same x y) refl (has same x ys) refl (alike_once x n ys apart.1)
     where
-      by : (b : Bool) → same x y ≡ b → (c : Bool) → has same x ys ≡ c → cond c n 0 ≡ total (λ z. cond (same x z) n 0) ys → cond (b || c) n 0 ≡ cond b n 0 + total (λ z. cond (same x z) n 0) ys
+      by : (b : Bool) → same x y ≡ b → (c : Bool) → has same x ys ≡ c → cond c n 0 ≡ total (λ z. cond (same x z) n 0) ys
+          → cond (b || c) n 0 ≡ cond b n 0 + total (λ z. cond (same x z) n 0) ys
       by true here true later rest = absurd (true≢false (sym later ∙ ap (λ z. has same z ys) (tells.means x y here) ∙ apart.0))
       by true here false later rest = omega arith
       by false here c later rest = omega arith
 
   -- what two lists with no two alike have in common weighs the same, counted in either
-  pub total-common : (weight : X → ℕ) (xs ys : List X) → Apart same xs → Apart same ys → total (λ x. cond (has same x ys) (weight x) 0) xs ≡ total (λ y. cond (has same y xs) (weight y) 0) ys
+  pub total-common : (weight : X → ℕ) (xs ys : List X) → Apart same xs → Apart same ys
+      → total (λ x. cond (has same x ys) (weight x) 0) xs ≡ total (λ y. cond (has same y xs) (weight y) 0) ys
   total-common weight xs ys first second =
       total-weights (λ x. cond (has same x ys) (weight x) 0) (λ x. total (λ y. cond (same x y) (weight x) 0) ys) xs (λ x there. alike_once x (weight x) ys second)
       ∙ total-total (λ x y. cond (same x y) (weight x) 0) xs ys
@@ -274,7 +280,8 @@ split_at_member x (y ∷ ys) (inl here) = ([], ys, ap (λ z. z ∷ ys) (sym here
 split_at_member x (y ∷ ys) (inr later) = let found = split_at_member x ys later in (y ∷ found.0, found.1, ap (λ l. y ∷ l) found.2)
 
 -- the same bag as one with x holds x, and is the same bag without it
-pub SameBag-taken : {X : Type 0} {same : X → X → Bool} (tells : Tells same) (x : X) (xs ys : List X) → SameBag (x ∷ xs) ys → (front : List X) × (rest : List X) × (ys ≡ front ++ x ∷ rest) × SameBag xs (front ++ rest)
+pub SameBag-taken : {X : Type 0} {same : X → X → Bool} (tells : Tells same) (x : X) (xs ys : List X) → SameBag (x ∷ xs) ys
+    → (front : List X) × (rest : List X) × (ys ≡ front ++ x ∷ rest) × SameBag xs (front ++ rest)
 SameBag-taken {same = same} tells x xs ys bag =
     let found = split_at_member x ys (In-has tells x ys (sym (SameBag-list_any (same x) (x ∷ xs) ys bag) ∙ has-In tells x (x ∷ xs) (inl refl))) in
     (found.0, found.1, found.2, λ weight. omega (arith, bag weight, ap (total weight) found.2, total-append weight found.0 (x ∷ found.1), total-append weight found.0 found.1))

@@ -84,7 +84,8 @@ with_text-with_text a b texts = by (upto_text a b) refl (upto_text b a) refl
     by false e true k = sym (with_smaller b a e texts)
     by true e true k = ap (λ c. with_text a (with_text c texts)) (sym (one_text a b e k)) ∙ ap (λ c. with_text c (with_text a texts)) (one_text a b e k)
 
-in_byte_order-middle : (front : List (List ℕ)) (x : List ℕ) (rest : List (List ℕ)) → in_byte_order (front ++ x ∷ rest) ≡ with_text x (in_byte_order (front ++ rest))
+in_byte_order-middle : (front : List (List ℕ)) (x : List ℕ) (rest : List (List ℕ))
+    → in_byte_order (front ++ x ∷ rest) ≡ with_text x (in_byte_order (front ++ rest))
 in_byte_order-middle [] x rest = refl
 in_byte_order-middle (f ∷ front) x rest = ap (with_text f) (in_byte_order-middle front x rest) ∙ with_text-with_text f x (in_byte_order (front ++ rest))
 

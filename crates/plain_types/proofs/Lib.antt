@@ -1,2 +1,4 @@
-pub mod BagLaws
-pub mod ByteOrderLaws
+mod BagLaws
+mod ByteOrderLaws
+pub mod CallerLemmas
+mod StepLaws

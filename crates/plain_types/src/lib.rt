@@ -11,8 +11,6 @@ mod laws;
 mod list;
 mod order;
 mod path;
-#[cfg(test)]
-mod tests;
 mod text;
 
 pub use bytes::Bytes;

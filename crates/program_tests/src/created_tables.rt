@@ -21,24 +21,6 @@ const VERSION: &str = "h/metadata/v1.metadata.json";
 const TEXT: &str =
     r#"{"current-schema-id":0,"default-sort-order-id":0,"default-spec-id":0,"format-version":2,"last-column-id":2,"last-partition-id":999,"last-sequence-number":0,"last-updated-ms":1700000000000,"location":"h","partition-specs":[{"fields":[],"spec-id":0}],"properties":{},"schemas":[{"fields":[{"id":1,"name":"id","required":true,"type":"long"},{"doc":"who","id":2,"name":"name","required":false,"type":"string"}],"schema-id":0,"type":"struct"}],"sort-orders":[{"fields":[],"order-id":0}],"table-uuid":"29ac0894-7884-5831-8a36-17e914394540"}"#;
 
-const BAD: &[&str] = &[
-    r#"{"#,
-    r#"[]"#,
-    r#"{}"#,
-    r#"{"schema":{"schema-id":0,"fields":[]}}"#,
-    r#"{"schema":{"schema-id":0,"fields":[{"id":1,"name":"a","required":true,"type":"long"}]},"other":1}"#,
-    r#"{"schema":{"schema-id":0,"fields":[{"id":1,"name":"a","required":true,"type":"long"}]},"properties":{"a":1}}"#,
-    r#"{"schema":{"schema-id":0,"fields":[{"id":1,"name":"a","required":true,"type":"long"}]},"properties":{"write.delete.mode":"no"}}"#,
-    r#"{"schema":{"schema-id":0,"fields":[{"id":1,"name":"a","required":true,"type":"long"}]},"partition-spec":{}}"#,
-    r#"{"schema":{"schema-id":0,"fields":[{"id":1,"name":"a","required":true,"type":"long","x":1.5}]}}"#,
-];
-
-const FOR_LATER: &[&str] = &[
-    r#"{"schema":{"schema-id":0,"fields":[{"id":1,"name":"a","required":true,"type":"int"}]}}"#,
-    r#"{"schema":{"schema-id":0,"fields":[{"id":1,"name":"a","required":true,"type":"long"}]},"partition-spec":[{"source-id":1,"field-id":1000,"name":"a","transform":"identity"}]}"#,
-    r#"{"schema":{"schema-id":0,"fields":[{"id":1,"name":"a","required":true,"type":"long"}]},"properties":{"write.delete.mode":"merge-on-read"}}"#,
-];
-
 /// Whether the call ends so, with this schema file.
 fn ends(
     alloc: Global,
@@ -54,47 +36,6 @@ fn ends(
     let words = CREATE.as_slice();
     let status = run_program(alloc, words, &mut store, &mut inputs, &mut out, &mut clock);
     Ok(status.number() == number && out.bytes() == report.as_bytes())
-}
-
-/// Whether each call ends so, in a folder without files.
-fn all_end(alloc: Global, schemas: &[&str], number: u8, report: &str) -> Result<bool, AllocError> {
-    for schema in schemas {
-        let store = MemoryStore::new(alloc);
-        if !ends(alloc, schema.as_bytes(), store, number, report)? {
-            return Ok(false);
-        }
-    }
-    Ok(true)
-}
-
-#[test]
-fn a_schema_file_out_of_form_is_named(rt: HostRuntime) -> Result<(), Fail> {
-    let alloc = rt.alloc();
-    assert!(rt; all_end(alloc, BAD, 3, "fault script 1 schema\n")?);
-    assert!(rt; all_end(alloc, FOR_LATER, 3, "fault script 1 later\n")?);
-    let store = MemoryStore::new(alloc);
-    assert!(rt; ends(alloc, b"\xff", store, 3, "fault script 1 text\n")?);
-    Ok(())
-}
-
-fn beside(alloc: Global, name: &str, report: &str) -> Result<bool, AllocError> {
-    let store = MemoryStore::with_files(one_file(alloc, name, b"{}")?);
-    ends(alloc, SCHEMA, store, 4, report)
-}
-
-#[test]
-fn a_table_is_made_where_there_is_none(rt: HostRuntime) -> Result<(), Fail> {
-    let alloc = rt.alloc();
-    let compressed = "h/metadata/v3.gz.metadata.json";
-    assert!(rt; beside(alloc, VERSION, "fault table exists h\n")?);
-    assert!(rt;
-        beside(
-            alloc,
-            compressed,
-            "fault table later h/metadata/v3.gz.metadata.json\n"
-        )?
-    );
-    Ok(())
 }
 
 /// A store whose first call of a kind fails, and perhaps its first read.
@@ -184,28 +125,5 @@ fn a_table_that_was_made_has_no_rows_and_is_made_once(rt: HostRuntime) -> Result
     assert!(rt; creates(alloc, &mut store, &mut none, 6, "fault input s.json\n")?);
     assert!(rt; holds_version(alloc, &mut store));
     assert!(rt; has_no_rows(alloc, &mut store)?);
-    Ok(())
-}
-
-/// With so many blanks before it the schema file has 1 MiB.
-const BLANKS: usize = 1_048_402;
-
-/// The schema file with so many blanks before it.
-fn padded(alloc: Global, blanks: usize) -> Result<Vec<u8>, AllocError> {
-    let mut bytes = Vec::new(alloc);
-    bytes.extend_from_slice(" ".repeat(alloc, blanks)?.as_bytes())?;
-    bytes.extend_from_slice(SCHEMA)?;
-    Ok(bytes)
-}
-
-#[test]
-fn a_schema_file_has_at_most_a_mebibyte(rt: HostRuntime) -> Result<(), Fail> {
-    let alloc = rt.alloc();
-    let most = padded(alloc, BLANKS)?;
-    let more = padded(alloc, BLANKS + 1)?;
-    let store = MemoryStore::new(alloc);
-    assert!(rt; ends(alloc, most.as_slice(), store, 0, "created v1\n")?);
-    let store = MemoryStore::new(alloc);
-    assert!(rt; ends(alloc, more.as_slice(), store, 3, "fault script 1 limit\n")?);
     Ok(())
 }

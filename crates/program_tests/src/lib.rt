@@ -6,8 +6,6 @@ mod commands;
 #[cfg(test)]
 mod created_tables;
 #[cfg(test)]
-mod sample_files;
-#[cfg(test)]
-mod sample_tables;
+mod printed_rows;
 #[cfg(test)]
 mod script_runs;

@@ -6,8 +6,8 @@ use dml_program::run_program;
 use std::alloc::{AllocError, Global};
 use std::test::Fail;
 use store_core::{
-    CallKind, FailAt, File, FixedClock, Leave, List, MemoryInputs, MemorySink, MemoryStore, Name,
-    ReadAnswer, Store,
+    Blob, CallKind, FailAt, File, FixedClock, Leave, List, MemoryInputs, MemorySink, MemoryStore,
+    Name, ReadAnswer, Store,
 };
 
 const TABLE: &str = "h";
@@ -29,65 +29,6 @@ event s.2 swap v3 won
 answer s.2 committed v3
 branch main 1
 ";
-
-/// Changes nothing, is refused, and deletes all.
-const FOUR_STATEMENTS: &str = "-- of one session
-SESSION s;
-INSERT INTO t VALUES (-7, 'a,\"b'), (3, ''), (3, '');
-DELETE FROM t WHERE name = 'none';
-INSERT INTO t VALUES (NULL, 'y');
-DELETE FROM t WHERE name = NULL;
-DELETE FROM t;";
-
-const FOUR_REPORT: &str = "event s.1 plan v1
-event s.1 validate v1 good
-event s.1 swap v2 won
-answer s.1 committed v2
-event s.2 plan v2
-event s.2 validate v2 good
-answer s.2 unchanged
-event s.3 plan v2
-answer s.3 null id
-event s.4 plan v2
-event s.4 validate v2 good
-answer s.4 unchanged
-event s.5 plan v2
-event s.5 validate v2 good
-event s.5 swap v3 won
-answer s.5 committed v3
-branch main 0
-";
-
-/// A script, and the fault that it has.
-const BAD: [(&str, &str); 17] = [
-    ("SESSION s; INSERT INTO t VALUES (1, 'x')", "1 form"),
-    ("SESSION s;\nINSERT INTO t VALUES (1, 'x);", "2 token"),
-    ("SESSION s;\n/* DELETE FROM t;", "2 token"),
-    ("SESSION s;\nDELETE FROM t WHERE ?;", "2 token"),
-    ("INSERT INTO t VALUES (1, 'x');", "1 form"),
-    ("SESSION s;\nINSERT t VALUES (1, 'x');", "2 form"),
-    ("SESSION s;\nINSERT INTO t\nROWS (1, 'x');", "3 form"),
-    ("SESSION s;\nINSERT INTO t VALUES 1, 'x';", "2 form"),
-    ("SESSION s;\nINSERT INTO t VALUES ();", "2 form"),
-    ("SESSION s;\nDELETE t;", "2 form"),
-    ("SESSION s;\nDELETE FROM t WHERE id;", "2 form"),
-    ("SESSION s;\nDELETE FROM t\nWHERE age = 1;", "3 name"),
-    ("SESSION s;\nDELETE FROM t WHERE id = 'x';", "2 kind"),
-    ("SESSION s;\nINSERT INTO t VALUES (1, 2);", "2 kind"),
-    (
-        "SESSION s;\nDELETE FROM t WHERE id = 9223372036854775808;",
-        "2 kind",
-    ),
-    ("SESSION s;\nINSERT INTO t VALUES (1);", "2 form"),
-    ("SESSION s;\nINSERT INTO t VALUES (1, 'x', 2);", "2 form"),
-];
-
-/// A script of something that is not run yet.
-const FOR_LATER: [&str; 3] = [
-    "SESSION s;\nUPDATE t SET id = 1;",
-    "SESSION s;\nDELETE FROM t WHERE id > 1;",
-    "SESSION s; DELETE FROM t;\nSESSION r;",
-];
 
 /// Runs a command over a store that stays, with a file `f`, and says whether it ends so.
 fn command_ends(
@@ -139,89 +80,6 @@ fn a_script_changes_a_table_that_was_made(rt: HostRuntime) -> Result<(), Fail> {
     Ok(())
 }
 
-#[test]
-fn a_refused_statement_changes_nothing(rt: HostRuntime) -> Result<(), Fail> {
-    let alloc = rt.alloc();
-    let mut store = MemoryStore::new(alloc);
-    assert!(rt; made(alloc, &mut store)?);
-    assert!(rt;
-        script_ends(
-            alloc,
-            &mut store,
-            FOUR_STATEMENTS.as_bytes(),
-            1,
-            FOUR_REPORT
-        )?
-    );
-    assert!(rt; has_rows(alloc, &mut store, "")?);
-    let more = b"SESSION s; INSERT INTO t VALUES (3, ''), (-7, 'a,\"b'), (3, '');";
-    let report = "event s.1 plan v3
-event s.1 validate v3 good
-event s.1 swap v4 won
-answer s.1 committed v4
-branch main 3
-";
-    assert!(rt; script_ends(alloc, &mut store, more.as_slice(), 0, report)?);
-    let rows = "row -7,\"a,\"\"b\"\nrow 3,\nrow 3,\n";
-    assert!(rt; has_rows(alloc, &mut store, rows)?);
-    Ok(())
-}
-
-#[test]
-fn a_script_without_statements_changes_nothing(rt: HostRuntime) -> Result<(), Fail> {
-    let alloc = rt.alloc();
-    let mut store = MemoryStore::new(alloc);
-    assert!(rt; made(alloc, &mut store)?);
-    for script in ["", "-- nothing\n-- to do", "SESSION s;"] {
-        assert!(rt; script_ends(alloc, &mut store, script.as_bytes(), 0, "branch main 0\n")?);
-    }
-    Ok(())
-}
-
-#[test]
-fn a_script_out_of_form_is_named_with_its_line(rt: HostRuntime) -> Result<(), Fail> {
-    let alloc = rt.alloc();
-    let mut store = MemoryStore::new(alloc);
-    assert!(rt; made(alloc, &mut store)?);
-    for (script, fault) in BAD.iter() {
-        let report = format!(in alloc; "fault script {fault}\n")?;
-        let script = script.as_bytes();
-        assert!(rt;
-            script_ends(alloc, &mut store, script, 3, report.as_str())?,
-            "{fault}"
-        );
-    }
-    for script in FOR_LATER.iter() {
-        let script = script.as_bytes();
-        assert!(rt; script_ends(alloc, &mut store, script, 3, "fault script 2 later\n")?);
-    }
-    assert!(rt; script_ends(alloc, &mut store, b"\xff", 3, "fault script 1 text\n")?);
-    let long = " ".repeat(alloc, 1_048_577)?;
-    assert!(rt;
-        script_ends(
-            alloc,
-            &mut store,
-            long.as_bytes(),
-            3,
-            "fault script 1 limit\n"
-        )?
-    );
-    assert!(rt; has_rows(alloc, &mut store, "")?);
-    Ok(())
-}
-
-#[test]
-fn a_table_that_is_not_there_is_named_before_the_script(rt: HostRuntime) -> Result<(), Fail> {
-    let alloc = rt.alloc();
-    let mut store = MemoryStore::new(alloc);
-    let words = ["run", "--table", TABLE, "--script", "g"];
-    let no_input = "fault input g\n";
-    assert!(rt; command_ends(alloc, &mut store, words.as_slice(), b"", 6, no_input)?);
-    let no_version = "fault table no-version h\n";
-    assert!(rt; script_ends(alloc, &mut store, b"?", 4, no_version)?);
-    Ok(())
-}
-
 /// The bytes of the first version of the table.
 fn first_version(alloc: Global) -> Result<List<File>, AllocError> {
     let mut store = MemoryStore::new(alloc);
@@ -237,13 +95,42 @@ fn first_version(alloc: Global) -> Result<List<File>, AllocError> {
     Ok(files)
 }
 
+fn copies(alloc: Global, files: &List<File>) -> Result<List<File>, AllocError> {
+    let mut copies = Vec::new(alloc);
+    for held in files.as_slice() {
+        copies.push(File {
+            name: Name::copy_of(alloc, held.name.as_str())?,
+            bytes: Blob::copy_of(alloc, held.bytes.as_slice())?,
+        })?;
+    }
+    Ok(List::from_vec(copies))
+}
+
+const INSERT_REPORT: &str = "event s.1 plan v1
+event s.1 validate v1 good
+event s.1 swap v2 won
+answer s.1 committed v2
+branch main 2
+";
+
+/// The files of the table with two rows.
+pub(crate) fn two_rows(alloc: Global) -> Result<List<File>, AllocError> {
+    let mut store = MemoryStore::with_files(first_version(alloc)?);
+    let script = b"SESSION s; INSERT INTO t VALUES (1, 'x'), (2, NULL);";
+    if script_ends(alloc, &mut store, script.as_slice(), 0, INSERT_REPORT)? {
+        copies(alloc, store.files())
+    } else {
+        Ok(List::new(alloc))
+    }
+}
+
 /// The files that are there when a run begins, of which so many calls of the store fail.
 type Plan = &'static [(CallKind, u64, Leave)];
 
 /// Calls that fail, the status, the report and the rows that are left.
 type Case = (Plan, u8, &'static str, &'static str);
 
-const BOTH: &str = "row 1,x\nrow 2,\\N\n";
+pub(crate) const BOTH: &str = "row 1,x\nrow 2,\\N\n";
 
 const SECOND: &str = "row 2,\\N\n";
 

@@ -1,4 +1,7 @@
 //! The kinds, values, rows and schemas of a table, and the order of values.
+//!
+//! A value is of its kind by its form alone, and values of one kind are compared as SQL compares them; values of different
+//! kinds have no order.
 #![tactic(auto)]
 
 mod kind;

@@ -12,7 +12,7 @@ use Rattle.std.proofs.lemmas.List.{append_cancel_left}
 use Rattle.std.proofs.lemmas.Slice.Eq.{bytes_eq-Decides}
 use Rattle.std.proofs.lemmas.Str.Parse.{digit_from_value}
 use Rattle.avro_binary.specs.SchemaOnce.{is_id}
-use Rattle.kind_writer.specs.Names.{id_name}
+use Rattle.row_writer.specs.Names.{id_name}
 use Rattle.row_writer.specs.RowTypes.{decimal_name}
 
 small_by : (n : ℕ) (b : Bool) (z : ℤ) → nat_le n (2 ^ 31 - 1) ≡ b → is_some (cond b (Some z) None) ≡ true → n < 2 ^ 63
@@ -42,7 +42,8 @@ same_id (negsuc n) (negsuc m) h k e =
 same_test : (a b : ℤ) → a ≡ b → int_eq a b ≡ true
 same_test a b e = grind (arith, ints, nat_tests)
 
-differ_by : (c : Bool) (a b : ℤ) → is_id (Some a) ≡ true → is_id (Some b) ≡ true → int_eq a b ≡ false → bytes_eq (decimal_name a) (decimal_name b) ≡ c → c ≡ false
+differ_by : (c : Bool) (a b : ℤ) → is_id (Some a) ≡ true → is_id (Some b) ≡ true → int_eq a b ≡ false
+    → bytes_eq (decimal_name a) (decimal_name b) ≡ c → c ≡ false
 differ_by true a b h k d e =
     let name : id_name a ≡ id_name b = append_cancel_left (codes "decimal_") (id_name a) (id_name b) ((bytes_eq-Decides (decimal_name a) (decimal_name b)).0 e) in
     let t : int_eq a b ≡ true = same_test a b (same_id a b h k name) in

@@ -1,9 +1,25 @@
-pub mod Apart
-pub mod ColumnNames
-pub mod ContainerAgain
-pub mod RowFits
-pub mod RowPlans
-pub mod RowText
-pub mod RowsAgain
-pub mod Sizes
-pub mod Sources
+mod Apart
+mod Ascii
+mod Begun
+pub mod CallerLemmas
+mod ColumnNames
+mod ContainerAgain
+mod DatumOut
+mod FieldLaws
+mod KindFits
+mod KindLaws
+mod KindPlans
+mod KindText
+mod PlanNames
+mod PlanOut
+mod PlanRoom
+mod PlanText
+mod Plans
+mod Powers
+mod RowFits
+mod RowPlans
+mod RowText
+mod RowsAgain
+mod Sizes
+mod Sources
+mod Tests

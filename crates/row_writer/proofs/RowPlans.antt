@@ -6,10 +6,10 @@ use Rattle.row_values.specs.declared.schema.Column.{Column}
 use Rattle.avro_binary.specs.declared.schema.Field.{Field}
 use Rattle.avro_binary.specs.declared.schema.Schema.{Schema}
 use Rattle.avro_binary.specs.Shape.{Shape, record_shape, shape, level, field_level}
-use Rattle.kind_writer.specs.Field.{field, optional_type, record_type}
-use Rattle.kind_writer.specs.KindTypes.{kind_type}
-use Rattle.kind_writer.proofs.Plans.{Plan, optional_plan, record_plan, Plans, no_plans, more_plans, type_of, types_of, plan_folds}
-use Rattle.kind_writer.proofs.KindPlans.{kind_plan, kind_type_is, plan_shapes}
+use Rattle.row_writer.specs.Field.{field, optional_type, record_type}
+use Rattle.row_writer.specs.KindTypes.{kind_type}
+use Rattle.row_writer.proofs.Plans.{Plan, optional_plan, record_plan, Plans, no_plans, more_plans, type_of, types_of, plan_folds}
+use Rattle.row_writer.proofs.KindPlans.{kind_plan, kind_type_is, plan_shapes}
 use Rattle.row_writer.specs.RowTypes.{are_names, column_name, decimal_name, column_field, row_type}
 
 abbrev pub if_required : Bool → Plan → Plan

@@ -6,22 +6,22 @@ use Rattle.std.specs.Ordering.{int_eq}
 use Rattle.row_values.specs.declared.kind.Kind.{Kind}
 use Rattle.row_values.specs.declared.kind.Kind.TheVariants as kind
 use Rattle.row_values.specs.declared.schema.Column.{Column}
-use Rattle.column_bounds.specs.Bounds.{is_kind}
+use Rattle.kind_values.specs.Bounds.{is_kind}
 use Rattle.avro_binary.specs.Naming.{has_begun}
 use Rattle.avro_binary.specs.SchemaOnce.{has_text, is_id, each_once}
 use Rattle.avro_binary.specs.Shape.{shape}
 use Rattle.avro_binary.specs.Spelling.{takes_bytes, some_takes_bytes, items_take_bytes, all_items_take_bytes}
-use Rattle.avro_binary.proofs.JsonTexts.{are_ascii}
-use Rattle.kind_writer.specs.Names.{is_name, id_name}
-use Rattle.kind_writer.proofs.Tests.{first, second, not_false}
-use Rattle.kind_writer.proofs.Begun.{begun_append, one_is}
-use Rattle.kind_writer.proofs.Ascii.{ascii_append, name_ascii, id_ascii}
-use Rattle.kind_writer.proofs.Plans.{Plan, optional_plan, type_of}
-use Rattle.kind_writer.proofs.PlanNames.{named, named_each, plain_names, plain_fields}
-use Rattle.kind_writer.proofs.PlanRoom.{nodes, nodes_of, within, all_within}
-use Rattle.kind_writer.proofs.PlanText.{plan_has_text}
-use Rattle.kind_writer.proofs.KindPlans.{kind_plan, kind_nodes, kind_within, plan_shape, plan_shapes}
-use Rattle.kind_writer.proofs.KindText.{kind_plain, kind_takes_bytes, kind_items}
+use Rattle.avro_binary.proofs.CallerLemmas.{are_ascii}
+use Rattle.row_writer.specs.Names.{is_name, id_name}
+use Rattle.row_writer.proofs.Tests.{first, second, not_false}
+use Rattle.row_writer.proofs.Begun.{begun_append, one_is}
+use Rattle.row_writer.proofs.Ascii.{ascii_append, name_ascii, id_ascii}
+use Rattle.row_writer.proofs.Plans.{Plan, optional_plan, type_of}
+use Rattle.row_writer.proofs.PlanNames.{named, named_each, plain_names, plain_fields}
+use Rattle.row_writer.proofs.PlanRoom.{nodes, nodes_of, within, all_within}
+use Rattle.row_writer.proofs.PlanText.{plan_has_text}
+use Rattle.row_writer.proofs.KindPlans.{kind_plan, kind_nodes, kind_within, plan_shape, plan_shapes}
+use Rattle.row_writer.proofs.KindText.{kind_plain, kind_takes_bytes, kind_items}
 use Rattle.row_writer.specs.RowTypes.{has_name, are_names, column_name, decimal_name, row_type}
 use Rattle.row_writer.specs.Readable.{has_id, are_apart, AreColumns}
 use Rattle.row_writer.proofs.ColumnNames.{names_differ}
@@ -43,11 +43,13 @@ plain_by false name k text h = kind_plain name k text h
 decimal_ascii : (id : ℤ) → is_id (Some id) ≡ true → are_ascii (decimal_name id) ≡ true
 decimal_ascii id h = ascii_append (codes "decimal_") (id_name id) refl (id_ascii id h)
 
-column_ascii : (keeps : Bool) (column : Column) → (keeps ≡ true → is_name column.name ≡ true) → is_id (Some column.id) ≡ true → are_ascii (column_name keeps column) ≡ true
+column_ascii : (keeps : Bool) (column : Column) → (keeps ≡ true → is_name column.name ≡ true) → is_id (Some column.id) ≡ true
+    → are_ascii (column_name keeps column) ≡ true
 column_ascii true column h id = name_ascii column.name (h refl)
 column_ascii false column h id = id_ascii column.id id
 
-columns_plain : (keeps : Bool) (columns : List Column) → (keeps ≡ true → are_names columns ≡ true) → are_ids columns ≡ true → are_kinds columns ≡ true → plain_fields (column_plans keeps columns) ≡ true
+columns_plain : (keeps : Bool) (columns : List Column) → (keeps ≡ true → are_names columns ≡ true) → are_ids columns ≡ true
+    → are_kinds columns ≡ true → plain_fields (column_plans keeps columns) ≡ true
 unfolding are_names
 columns_plain keeps [] names ids kinds = refl
 columns_plain keeps (column ∷ columns) names ids kinds =
@@ -79,7 +81,8 @@ kind_named name (kind.Decimal precision scale) begun h = one_is name begun h
 kind_named name kind.Text begun h = refl
 kind_named name kind.Bytes begun h = refl
 
-named_by : (b : Bool) (name : List ℕ) (k : Kind) (begun : Names) → has_begun name begun ≡ false → named (if_required b (kind_plan name k)) begun ≡ Some (after_kind name k begun)
+named_by : (b : Bool) (name : List ℕ) (k : Kind) (begun : Names) → has_begun name begun ≡ false
+    → named (if_required b (kind_plan name k)) begun ≡ Some (after_kind name k begun)
 named_by true name k begun h = kind_named name k begun h
 named_by false name k begun h = ap (option_and_then (each_once [])) (kind_named name k begun h)
 
@@ -87,7 +90,8 @@ named_by false name k begun h = ap (option_and_then (each_once [])) (kind_named 
 abbrev are_free : Names → List Column → Bool
 are_free begun columns = list_all (λ column. not (has_begun (decimal_name column.id) begun)) columns
 
-free_more : (begun : Names) (id : ℤ) (columns : List Column) → is_id (Some id) ≡ true → are_ids columns ≡ true → not (has_id id columns) ≡ true → are_free begun columns ≡ true → are_free (begun ++ decimal_name id ∷ []) columns ≡ true
+free_more : (begun : Names) (id : ℤ) (columns : List Column) → is_id (Some id) ≡ true → are_ids columns ≡ true
+    → not (has_id id columns) ≡ true → are_free begun columns ≡ true → are_free (begun ++ decimal_name id ∷ []) columns ≡ true
 unfolding has_begun
 free_more begun id [] h ids new free = refl
 free_more begun id (column ∷ columns) h ids new free =
@@ -99,7 +103,9 @@ free_more begun id (column ∷ columns) h ids new free =
     ap (λ (b : Bool). not b && are_free (begun ++ decimal_name id ∷ []) columns) (begun_append name begun (decimal_name id ∷ []) before one)
     ∙ free_more begun id columns h (second (is_id (Some column.id)) (are_ids columns) ids) here.1 (second (not (has_begun name begun)) (are_free begun columns) free)
 
-free_after : (k : Kind) (begun : Names) (id : ℤ) (columns : List Column) → is_id (Some id) ≡ true → are_ids columns ≡ true → not (has_id id columns) ≡ true → are_free begun columns ≡ true → are_free (after_kind (decimal_name id) k begun) columns ≡ true
+free_after : (k : Kind) (begun : Names) (id : ℤ) (columns : List Column) → is_id (Some id) ≡ true → are_ids columns ≡ true
+    → not (has_id id columns) ≡ true → are_free begun columns ≡ true
+    → are_free (after_kind (decimal_name id) k begun) columns ≡ true
 free_after kind.Bool begun id columns h ids new free = free
 free_after kind.Int begun id columns h ids new free = free
 free_after kind.Long begun id columns h ids new free = free
@@ -109,7 +115,8 @@ free_after (kind.Decimal precision scale) begun id columns h ids new free = free
 free_after kind.Text begun id columns h ids new free = free
 free_after kind.Bytes begun id columns h ids new free = free
 
-columns_named : (keeps : Bool) (columns : List Column) (begun : Names) → are_ids columns ≡ true → are_apart columns ≡ true → are_free begun columns ≡ true → is_some (named_each (column_plans keeps columns) begun) ≡ true
+columns_named : (keeps : Bool) (columns : List Column) (begun : Names) → are_ids columns ≡ true → are_apart columns ≡ true
+    → are_free begun columns ≡ true → is_some (named_each (column_plans keeps columns) begun) ≡ true
 unfolding are_apart
 columns_named keeps [] begun ids apart free = refl
 columns_named keeps (column ∷ columns) begun ids apart free =

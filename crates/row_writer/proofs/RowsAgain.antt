@@ -11,7 +11,7 @@ use Rattle.row_values.specs.declared.value.Value.{Value}
 use Rattle.row_values.specs.declared.value.Value.TheVariants as value
 use Rattle.row_values.specs.declared.schema.Column.{Column}
 use Rattle.row_values.specs.Rows.{is_value, is_null, is_held, is_row}
-use Rattle.column_bounds.specs.Bounds.{is_kind}
+use Rattle.kind_values.specs.Bounds.{is_kind}
 use Rattle.avro_binary.specs.declared.datum.Datum.{Datum, out-Datum}
 use Rattle.avro_binary.specs.declared.datum.Datum.TheVariants as datum
 use Rattle.avro_binary.specs.declared.schema.Field.{Field}
@@ -21,12 +21,12 @@ use Rattle.avro_rows.specs.declared.source.Source.{Source}
 use Rattle.avro_rows.specs.DatumValue.{value_of, inside_level, inside, is_null_datum}
 use Rattle.avro_rows.specs.Rows.{values_of, null_at, held_at, value_at, row_from, rows_from, rows_of}
 use Rattle.avro_rows.specs.Sources.{fields_level, fields_of, sources_from}
-use Rattle.kind_writer.specs.KindDatum.{value_datum, optional}
-use Rattle.kind_writer.proofs.Tests.{first, second}
-use Rattle.kind_writer.proofs.DatumOut.{null_out, union_out, values_is}
-use Rattle.kind_writer.proofs.KindLaws.{IsRead, value_read}
-use Rattle.kind_writer.proofs.Plans.{types_of}
-use Rattle.kind_writer.proofs.PlanOut.{plan_out}
+use Rattle.row_writer.specs.KindDatum.{value_datum, optional}
+use Rattle.row_writer.proofs.Tests.{first, second}
+use Rattle.row_writer.proofs.DatumOut.{null_out, union_out, values_is}
+use Rattle.row_writer.proofs.KindLaws.{IsRead, value_read}
+use Rattle.row_writer.proofs.Plans.{types_of}
+use Rattle.row_writer.proofs.PlanOut.{plan_out}
 use Rattle.row_writer.specs.Readable.{AreColumns}
 use Rattle.row_writer.specs.RowTypes.{are_names, row_type}
 use Rattle.row_writer.specs.RowDatum.{column_datum, column_datums, row_datum}
@@ -43,7 +43,8 @@ source_of id k required n = record { id = id; kind = k; required = required; pla
 abbrev held_by : Source → ℕ → Datum → Bool → Result Value RowFault
 held_by source row d null = cond null (null_at source row) (or_fault (fault.Range source.id row) (value_of source.kind d))
 
-value_held : (id : ℤ) (k : Kind) (required : Bool) (n row : ℕ) (v : Value) (whole d : Datum) → inside whole ≡ d → IsRead k v d → held_at (source_of id k required n) row (inside whole) ≡ Ok v
+value_held : (id : ℤ) (k : Kind) (required : Bool) (n row : ℕ) (v : Value) (whole d : Datum) → inside whole ≡ d → IsRead k v d
+    → held_at (source_of id k required n) row (inside whole) ≡ Ok v
 value_held id k required n row v whole d within r =
     ap (held_at (source_of id k required n) row) within ∙ ap (held_by (source_of id k required n) row d) r.some ∙ ap (or_fault (fault.Range id row)) r.has
 
@@ -56,7 +57,8 @@ is_null_value : (v : Value) → is_null v ≡ true → v ≡ value.Null
 is_null_value value.Null h = refl
 is_null_value v h = absurd cc
 
-held_again : (required null : Bool) (id : ℤ) (k : Kind) (n row : ℕ) (v : Value) → is_null v ≡ null → is_kind k ≡ true → cond null (not required) (is_value k v) ≡ true
+held_again : (required null : Bool) (id : ℤ) (k : Kind) (n row : ℕ) (v : Value) → is_null v ≡ null → is_kind k ≡ true
+    → cond null (not required) (is_value k v) ≡ true
     → held_at (source_of id k required n) row (inside (cond required (value_datum k v) (cond null (optional None) (optional (Some (value_datum k v)))))) ≡ Ok v
 held_again true true id k n row v e sound h = absurd cc
 held_again true false id k n row v e sound h =
@@ -80,12 +82,14 @@ one_more front d = length-append front (d ∷ []) ∙ omega arith
 abbrev are_kinds : List Column → Bool
 are_kinds columns = list_all (λ column. is_kind column.kind) columns
 
-value_again : (column : Column) (v : Value) (whole : List Datum) (n row : ℕ) → slice_get whole n ≡ Some (column_datum column v) → is_kind column.kind ≡ true → is_held column v ≡ true → value_at (source_at column n) row whole ≡ Ok v
+value_again : (column : Column) (v : Value) (whole : List Datum) (n row : ℕ) → slice_get whole n ≡ Some (column_datum column v)
+    → is_kind column.kind ≡ true → is_held column v ≡ true → value_at (source_at column n) row whole ≡ Ok v
 value_again column v whole n row found sound h =
     ap (λ (o : Option Datum). by_option o (λ d. held_at (source_at column n) row (inside d)) (null_at (source_at column n) row)) found
     ∙ held_again column.required (is_null v) column.id column.kind n row v refl sound h
 
-row_again : (row : ℕ) (whole front : List Datum) (n : ℕ) (earlier : List Value) (columns : List Column) (vs : List Value) → whole ≡ front ++ column_datums columns vs → length front ≡ n → are_kinds columns ≡ true → is_row columns vs ≡ true
+row_again : (row : ℕ) (whole front : List Datum) (n : ℕ) (earlier : List Value) (columns : List Column) (vs : List Value)
+    → whole ≡ front ++ column_datums columns vs → length front ≡ n → are_kinds columns ≡ true → is_row columns vs ≡ true
     → row_from row whole earlier (placed n columns) ≡ Ok (earlier ++ vs)
 unfolding row_from column_datums
 row_again row whole front n earlier [] [] is at sound h = ap (λ (xs : List Value). (let r : Result (List Value) RowFault = Ok xs in r)) (sym (append-nil earlier))
@@ -102,7 +106,9 @@ row_again row whole front n earlier (column ∷ columns) (v ∷ vs) is at sound 
 
 -- ---- all rows
 
-rows_from_again : (columns : List Column) (earlier rows : List (List Value)) → are_kinds columns ≡ true → list_all (is_row columns) rows ≡ true → rows_from (placed 0 columns) earlier (map (row_datum columns) rows) ≡ Ok (earlier ++ rows)
+rows_from_again : (columns : List Column) (earlier rows : List (List Value)) → are_kinds columns ≡ true
+    → list_all (is_row columns) rows ≡ true
+    → rows_from (placed 0 columns) earlier (map (row_datum columns) rows) ≡ Ok (earlier ++ rows)
 unfolding rows_from
 rows_from_again columns earlier [] sound h = ap (λ (xs : List (List Value)). (let r : Result (List (List Value)) RowFault = Ok xs in r)) (sym (append-nil earlier))
 rows_from_again columns earlier (row ∷ rows) sound h =
@@ -115,7 +121,8 @@ rows_from_again columns earlier (row ∷ rows) sound h =
 fields_are : (columns : List Column) → fields_of (row_type columns) ≡ types_of (column_plans (are_names columns) columns)
 fields_are columns = ap fields_of (sym (row_type_is columns)) ∙ ap fields_level (plan_out (row_plan columns))
 
-pub rows_again : (columns : List Column) (rows : List (List Value)) → AreColumns columns → list_all (is_row columns) rows ≡ true → rows_of (rows_container columns rows) columns ≡ Ok rows
+pub rows_again : (columns : List Column) (rows : List (List Value)) → AreColumns columns → list_all (is_row columns) rows ≡ true
+    → rows_of (rows_container columns rows) columns ≡ Ok rows
 unfolding rows_of
 rows_again columns rows are h =
     goes (sources_from (fields_of (row_type columns)) [] columns) _ (placed 0 columns) _ (ap (λ (fs : List Field). sources_from fs [] columns) (fields_are columns) ∙ all_found (are_names columns) columns are.apart)

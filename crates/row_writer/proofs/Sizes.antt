@@ -10,15 +10,14 @@ use Rattle.row_values.specs.declared.value.Value.{Value}
 use Rattle.row_values.specs.declared.value.Value.TheVariants as value
 use Rattle.row_values.specs.declared.schema.Column.{Column}
 use Rattle.row_values.specs.Rows.{is_null}
-use Rattle.number_bytes.specs.BigEndian.{bytes_in, is_negative, size_of}
-use Rattle.number_bytes.proofs.Written.{digits_length}
+use Rattle.kind_values.specs.BigEndian.{bytes_in, is_negative, size_of}
+use Rattle.kind_values.proofs.CallerLemmas.{digits_length}
 use Rattle.avro_binary.specs.declared.datum.Datum.TheVariants as datum
 use Rattle.avro_binary.specs.Spelling.{groups_up_to, zigzag, natural, counted, spelling}
-use Rattle.avro_binary.proofs.ShortestLaws.{groups_few}
-use Rattle.avro_binary.proofs.Spelled.{spells_null, spells_boolean, spells_int, spells_long, spells_bytes, spells_text, spells_record, spells_union, spells_fixed}
-use Rattle.kind_writer.specs.KindDatum.{amount_size, value_datum, optional}
-use Rattle.kind_writer.proofs.Tests.{first, second}
-use Rattle.kind_writer.proofs.KindLaws.{size_is}
+use Rattle.avro_binary.proofs.CallerLemmas.{groups_few, spells_null, spells_boolean, spells_int, spells_long, spells_bytes, spells_text, spells_record, spells_union, spells_fixed}
+use Rattle.row_writer.specs.KindDatum.{amount_size, value_datum, optional}
+use Rattle.row_writer.proofs.Tests.{first, second}
+use Rattle.row_writer.proofs.KindLaws.{size_is}
 use Rattle.row_writer.specs.RowDatum.{column_datum, column_datums, row_size}
 use Rattle.row_writer.specs.Short.{is_short, is_short_row}
 
@@ -91,7 +90,8 @@ value_small k (value.Bytes bytes) h = at_most _ _ 131075 (spells_bytes bytes) (c
 
 -- ---- rows
 
-column_by : (required null : Bool) (k : Kind) (v : Value) → is_short v ≡ true → length (spelling (cond required (value_datum k v) (cond null (optional None) (optional (Some (value_datum k v)))))) ≤ 131076
+column_by : (required null : Bool) (k : Kind) (v : Value) → is_short v ≡ true
+    → length (spelling (cond required (value_datum k v) (cond null (optional None) (optional (Some (value_datum k v)))))) ≤ 131076
 column_by true null k v h = let small : length (spelling (value_datum k v)) ≤ 131075 = value_small k v h in omega arith
 column_by false true k v h =
     let branch : length (natural 0) ≤ 1 = one_group 9 0 (omega arith) in
@@ -104,7 +104,8 @@ column_by false false k v h =
     let whole : length (spelling (datum.Union 1 (value_datum k v))) ≡ length (natural 1) + length (spelling (value_datum k v)) = ap length (spells_union 1 (value_datum k v)) ∙ length-append (natural 1) (spelling (value_datum k v)) in
     omega arith
 
-columns_small : (columns : List Column) (vs : List Value) → is_short_row vs ≡ true → length (concat (map spelling (column_datums columns vs))) ≤ 131076 * length columns
+columns_small : (columns : List Column) (vs : List Value) → is_short_row vs ≡ true
+    → length (concat (map spelling (column_datums columns vs))) ≤ 131076 * length columns
 unfolding column_datums
 columns_small [] vs h = omega arith
 columns_small (column ∷ columns) [] h = omega arith

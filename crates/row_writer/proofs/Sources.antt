@@ -14,11 +14,11 @@ use Rattle.avro_rows.specs.declared.row_fault.RowFault.TheVariants as fault
 use Rattle.avro_rows.specs.declared.source.Source.{Source}
 use Rattle.avro_rows.specs.Carrier.{carries}
 use Rattle.avro_rows.specs.Sources.{carried, source_from, sources_from}
-use Rattle.kind_writer.specs.Field.{field}
-use Rattle.kind_writer.proofs.Tests.{first, second, not_false}
-use Rattle.kind_writer.proofs.Plans.{type_of, types_of}
-use Rattle.kind_writer.proofs.KindPlans.{kind_plan}
-use Rattle.kind_writer.proofs.KindLaws.{kind_carried, optional_carried}
+use Rattle.row_writer.specs.Field.{field}
+use Rattle.row_writer.proofs.Tests.{first, second, not_false}
+use Rattle.row_writer.proofs.Plans.{type_of, types_of}
+use Rattle.row_writer.proofs.KindPlans.{kind_plan}
+use Rattle.row_writer.proofs.KindLaws.{kind_carried, optional_carried}
 use Rattle.row_writer.specs.RowTypes.{column_name, decimal_name}
 use Rattle.row_writer.specs.Readable.{has_id, are_apart}
 use Rattle.row_writer.proofs.Apart.{no_column_here, turned}
@@ -61,7 +61,9 @@ lack id columns = list_all (λ other. not (int_eq other.id id)) columns
 abbrev found_by : Bool → Result Source RowFault → Result Source RowFault → Result Source RowFault
 found_by b here later = cond b here later
 
-source_found : (keeps : Bool) (front : List Column) (column : Column) (columns : List Column) (n : ℕ) → lack column.id front ≡ true → source_from column n (types_of (column_plans keeps (front ++ column ∷ columns))) ≡ here_at column (n + length front)
+source_found : (keeps : Bool) (front : List Column) (column : Column) (columns : List Column) (n : ℕ)
+    → lack column.id front ≡ true
+    → source_from column n (types_of (column_plans keeps (front ++ column ∷ columns))) ≡ here_at column (n + length front)
 unfolding source_from
 source_found keeps [] column columns n h =
     ap (λ (b : Bool). found_by b (carried column n (field_for keeps column)) (source_from column (n + 1) (types_of (column_plans keeps columns)))) (same_id column.id) ∙ column_carried keeps column n ∙ ap (here_at column) (omega arith)
@@ -79,7 +81,8 @@ lack_more : (id : ℤ) (front : List Column) (column : Column) → lack id front
 lack_more id [] column h e = ap (λ (b : Bool). not b && true) e
 lack_more id (other ∷ front) column h e = ap (λ (b : Bool). b && lack id (front ++ column ∷ [])) (first (not (int_eq other.id id)) (lack id front) h) ∙ lack_more id front column (second (not (int_eq other.id id)) (lack id front) h) e
 
-apart_more : (front : List Column) (column : Column) (columns : List Column) → apart_from front columns ≡ true → not (has_id column.id columns) ≡ true → apart_from (front ++ column ∷ []) columns ≡ true
+apart_more : (front : List Column) (column : Column) (columns : List Column) → apart_from front columns ≡ true
+    → not (has_id column.id columns) ≡ true → apart_from (front ++ column ∷ []) columns ≡ true
 apart_more front column [] h new = refl
 apart_more front column (other ∷ columns) h new =
     let here = no_column_here (int_eq other.id column.id) (has_id column.id columns) new in
@@ -88,7 +91,8 @@ apart_more front column (other ∷ columns) h new =
 one_more : (front : List Column) (column : Column) → length (front ++ column ∷ []) ≡ suc (length front)
 one_more front column = length-append front (column ∷ []) ∙ omega arith
 
-columns_found : (keeps : Bool) (whole front : List Column) (n : ℕ) (earlier : List Source) (columns : List Column) → whole ≡ front ++ columns → length front ≡ n → apart_from front columns ≡ true → are_apart columns ≡ true
+columns_found : (keeps : Bool) (whole front : List Column) (n : ℕ) (earlier : List Source) (columns : List Column)
+    → whole ≡ front ++ columns → length front ≡ n → apart_from front columns ≡ true → are_apart columns ≡ true
     → sources_from (types_of (column_plans keeps whole)) earlier columns ≡ Ok (earlier ++ placed n columns)
 unfolding sources_from are_apart
 columns_found keeps whole front n earlier [] is at new h = ap (λ (xs : List Source). (let r : Result (List Source) RowFault = Ok xs in r)) (sym (append-nil earlier))
@@ -104,5 +108,6 @@ none_before : (columns : List Column) → apart_from [] columns ≡ true
 none_before [] = refl
 none_before (column ∷ columns) = none_before columns
 
-pub all_found : (keeps : Bool) (columns : List Column) → are_apart columns ≡ true → sources_from (types_of (column_plans keeps columns)) [] columns ≡ Ok (placed 0 columns)
+pub all_found : (keeps : Bool) (columns : List Column) → are_apart columns ≡ true
+    → sources_from (types_of (column_plans keeps columns)) [] columns ≡ Ok (placed 0 columns)
 all_found keeps columns h = columns_found keeps columns [] 0 [] columns refl refl (none_before columns) h

@@ -1,3 +1,7 @@
+pub mod Field
+pub mod KindDatum
+pub mod KindTypes
+pub mod Names
 pub mod Readable
 pub mod RowDatum
 pub mod RowTypes

@@ -3,7 +3,7 @@ use Rattle.std.specs.Prelude.{◌≤◌, ◌<◌, ℤ, Bool, true, not, ◌&&◌
 use Rattle.std.specs.Ordering.{int_eq}
 use Rattle.std.specs.List.{list_all, list_any}
 use Rattle.row_values.specs.declared.schema.Column.{Column}
-use Rattle.column_bounds.specs.Bounds.{is_kind}
+use Rattle.kind_values.specs.Bounds.{is_kind}
 use Rattle.avro_binary.specs.SchemaOnce.{is_id}
 
 abbrev pub has_id : ℤ → List Column → Bool

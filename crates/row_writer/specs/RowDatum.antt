@@ -6,7 +6,7 @@ use Rattle.row_values.specs.Rows.{is_null}
 use Rattle.avro_binary.specs.declared.datum.Datum.{Datum}
 use Rattle.avro_binary.specs.declared.datum.Datum.TheVariants as datum
 use Rattle.avro_binary.specs.Spelling.{spelling}
-use Rattle.kind_writer.specs.KindDatum.{value_datum, optional}
+use Rattle.row_writer.specs.KindDatum.{value_datum, optional}
 
 -- the value of an optional column is in a union, in which NULL comes first
 abbrev pub column_datum : Column → Value → Datum

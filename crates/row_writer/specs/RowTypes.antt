@@ -6,9 +6,9 @@ use Rattle.std.specs.Str.{bytes_eq}
 use Rattle.row_values.specs.declared.schema.Column.{Column}
 use Rattle.avro_binary.specs.declared.schema.Field.{Field}
 use Rattle.avro_binary.specs.declared.schema.Schema.{Schema}
-use Rattle.kind_writer.specs.Field.{field, optional_type, record_type}
-use Rattle.kind_writer.specs.KindTypes.{kind_type}
-use Rattle.kind_writer.specs.Names.{is_name, id_name}
+use Rattle.row_writer.specs.Field.{field, optional_type, record_type}
+use Rattle.row_writer.specs.KindTypes.{kind_type}
+use Rattle.row_writer.specs.Names.{is_name, id_name}
 
 -- ---- names
 

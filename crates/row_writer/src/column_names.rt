@@ -3,8 +3,8 @@ ghost use Rattle.std.specs.Prelude.{◌≡◌, IfOk, string_bytes};
 ghost use Rattle.std.specs.Str.{bytes_eq};
 ghost use Rattle.row_writer.specs.RowTypes.{has_name, are_names, column_name, decimal_name};
 
+use crate::names::{id_name, is_name};
 use avro_binary::Octets;
-use kind_writer::{id_name, is_name};
 use row_values::Column;
 use std::alloc::{AllocError, Global};
 

@@ -12,8 +12,10 @@ ghost use Rattle.row_writer.specs.Short.{is_short_row};
 
 /// Rows that are written are read again: the bytes are a container, whose rows in the columns are these.
 pub fn what_is_written_is_read()
-    ensures container { (columns : List Column) → (rows : List (List Value)) → AreColumns columns → AreRows columns rows → length (rows_text columns rows) < 2 ^ 63 → container_of (rows_text columns rows) ≡ Ok (rows_container columns rows) }
-    ensures rows { (columns : List Column) → (rows : List (List Value)) → AreColumns columns → AreRows columns rows → rows_of (rows_container columns rows) columns ≡ Ok rows }
+    ensures container { (columns : List Column) → (rows : List (List Value)) → AreColumns columns → AreRows columns rows
+        → length (rows_text columns rows) < 2 ^ 63 → container_of (rows_text columns rows) ≡ Ok (rows_container columns rows) }
+    ensures rows { (columns : List Column) → (rows : List (List Value)) → AreColumns columns → AreRows columns rows
+        → rows_of (rows_container columns rows) columns ≡ Ok rows }
 {}
 
 /// A row whose texts and bytes have at most 131,072 bytes each takes at most 131,076 bytes a column.

@@ -6,12 +6,20 @@
 
 mod column_names;
 mod columns_rows;
+mod datums;
+mod fields;
+mod kinds;
 mod laws;
+mod names;
 mod row_datum;
 mod row_schema;
 mod writer;
 
 pub use columns_rows::are_rows;
+pub use datums::{null_branch, value_branch, value_datum};
+pub use fields::{field, items_type, map_type, optional_type, record_type};
+pub use kinds::kind_type;
 pub use laws::{a_short_row_takes_few_bytes, what_is_written_is_read};
+pub use names::{id_name, is_name};
 pub use row_datum::row_size;
 pub use writer::write_rows;

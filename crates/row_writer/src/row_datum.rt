@@ -2,8 +2,8 @@
 ghost use Rattle.std.specs.Prelude.{◌≡◌, IfOk, map};
 ghost use Rattle.row_writer.specs.RowDatum.{column_datum, column_datums, row_datum, row_size};
 
+use crate::datums::{null_branch, value_branch, value_datum};
 use avro_binary::{Datum, Items, put_each};
-use kind_writer::{null_branch, value_branch, value_datum};
 use row_values::{Column, Row, TableSchema, Value};
 use std::alloc::{AllocError, Global};
 

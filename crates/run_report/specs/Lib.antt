@@ -1,1 +1,5 @@
+pub mod Escapes
+pub mod Lines
+pub mod Records
 pub mod Report
+pub mod Texts

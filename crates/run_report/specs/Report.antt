@@ -6,13 +6,13 @@ use Rattle.std.specs.Prelude.{ℕ, Bool, true, false, codes, List, [], ◌∷◌
 use Rattle.std.specs.List.{flat_map, list_any}
 use Rattle.plain_types.specs.Steps.{by_option}
 use Rattle.row_values.specs.declared.value.Value.{Value}
-use Rattle.value_texts.specs.Records.{records_of}
-use Rattle.report_lines.specs.Escapes.{escaped}
-use Rattle.report_lines.specs.Lines.{answer_line, branch_line, event_line}
-use Rattle.report_lines.specs.declared.answer.Answer.{Answer}
-use Rattle.report_lines.specs.declared.answer.Answer.TheVariants as answer
-use Rattle.report_lines.specs.declared.event.Event.{Event}
-use Rattle.report_lines.specs.declared.event.Stepped.{Stepped}
+use Rattle.run_report.specs.Records.{records_of}
+use Rattle.run_report.specs.Escapes.{escaped}
+use Rattle.run_report.specs.Lines.{answer_line, branch_line, event_line}
+use Rattle.session_machine.specs.declared.answer.Answer.{Answer}
+use Rattle.session_machine.specs.declared.answer.Answer.TheVariants as answer
+use Rattle.session_machine.specs.declared.event.Event.{Event}
+use Rattle.session_machine.specs.declared.event.Stepped.{Stepped}
 
 -- ---- lines and rows
 

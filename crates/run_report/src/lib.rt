@@ -1,13 +1,22 @@
-//! The report of a run, as bytes: what its sessions do step by step, how each statement ends, and how many rows each branch
-//! has in the end. One run has one report.
+//! The report of a run, as bytes: what its sessions do step by step, how each statement ends, the rows that it selects and
+//! how many rows each branch has in the end. One run has one report.
+//!
+//! Rows are records of `csv`'s default settings, in the order of their records' bytes, so that one bag of rows has one text. A
+//! line feed within a line is written as the two characters `\n`.
 #![tactic(auto)]
 
+mod escapes;
+mod fields;
+mod lines;
+mod records;
 mod refusals;
 mod rows;
 mod steps;
-#[cfg(test)]
-mod tests;
 
+pub use escapes::push_escaped;
+pub use fields::push_field;
+pub use lines::{answer_line, branch_line, event_line};
+pub use records::sorted_records;
 pub use refusals::is_refused;
 pub use rows::{push_line, push_rows};
 pub use steps::{name_of, push_branch, push_step, push_steps};

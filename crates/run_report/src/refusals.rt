@@ -2,7 +2,7 @@
 ghost use Rattle.std.specs.Prelude.{◌≡◌};
 ghost use Rattle.run_report.specs.Report.{has_refusal, is_refusal, is_refused};
 
-use report_lines::{Answer, Stepped};
+use session_machine::{Answer, Stepped};
 
 /// Whether some answer is none of committed, unchanged and selected.
 pub fn is_refused(steps: &[Stepped]) -> bool

@@ -3,11 +3,11 @@ ghost use Rattle.std.specs.Prelude.{◌≡◌, ◌++◌, OnOk};
 ghost use Rattle.std.specs.List.{flat_map};
 ghost use Rattle.run_report.specs.Report.{line, row_line, row_lines};
 
+use crate::escapes::push_escaped;
+use crate::records::sorted_records;
 use plain_types::Bytes;
-use report_lines::push_escaped;
 use row_values::Row;
 use std::alloc::{AllocError, Global};
-use value_texts::sorted_records;
 
 /// Appends the text as one line, with its line feed.
 pub fn push_line(text: &[u8], out: &mut Vec<u8>) -> Result<(), AllocError>

@@ -2,9 +2,10 @@
 ghost use Rattle.std.specs.Prelude.{◌≡◌, ◌++◌, OnOk};
 ghost use Rattle.run_report.specs.Report.{ended, lines_of_answer, lines_of_branch, lines_of_event, lines_of_step, lines_of_steps, name_of, rows_under};
 
+use crate::lines::{answer_line, branch_line, event_line};
 use crate::rows::push_rows;
 use plain_types::Text;
-use report_lines::{Answer, Event, Stepped, answer_line, branch_line, event_line};
+use session_machine::{Answer, Event, Stepped};
 use std::alloc::{AllocError, Global};
 
 /// Appends the lines of a step of a session, whose name stands at its number among the names.

@@ -3,7 +3,7 @@ use Rattle.std.specs.Prelude.{ℕ, ◌+◌, ◌-◌, ◌^◌, min, List, [], ◌
 use Rattle.script_words.specs.declared.keyword.Keyword.TheVariants as key
 use Rattle.script_words.specs.declared.word.Mark.TheVariants as mark
 use Rattle.script_words.specs.declared.word.Word.{Word}
-use Rattle.script_words.specs.declared.word.Word.TheVariants.{Key, Name, Number, Text, Mark, End}
+use Rattle.script_words.specs.declared.word.Word.TheVariants.{Key, Name, Quoted, Number, Text, Mark, End}
 use Rattle.script_words.specs.declared.word.Placed.{Placed}
 use Rattle.script_words.specs.declared.lexer.State.{State}
 use Rattle.script_words.specs.declared.lexer.State.TheVariants as state
@@ -12,6 +12,7 @@ use Rattle.script_words.specs.declared.lexer.Lexer.{Lexer}
 -- the word is a name, a literal or a closing parenthesis
 abbrev pub is_operand : Word → Bool
 is_operand (Name bytes) = true
+is_operand (Quoted bytes) = true
 is_operand (Number bytes) = true
 is_operand (Text bytes) = true
 is_operand (Mark mark.Close) = true

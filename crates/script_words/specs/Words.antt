@@ -99,7 +99,7 @@ in_name b l = if is_name_start b || is_digit b then kept b l else between b (put
 -- A name between backquotes has at least one character.
 unfoldable pub in_backquotes : ℕ → Lexer → Lexer
 in_backquotes b l =
-    if b == byte "`" then (if length l.held == 0 then refused l else put (word.Name l.held) (emptied l)) else kept b l
+    if b == byte "`" then (if length l.held == 0 then refused l else put (word.Quoted l.held) (emptied l)) else kept b l
 
 unfoldable pub in_text : ℕ → Lexer → Lexer
 in_text b l = if b == byte "'" then turned state.Quote l else kept b l

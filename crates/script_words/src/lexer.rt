@@ -52,7 +52,7 @@ pub(crate) fn is_operand(word: &Word) -> bool
     ensures { result ≡ is_operand word.now }
 {
     match word {
-        Word::Name(_) | Word::Number(_) | Word::Text(_) => true,
+        Word::Name(_) | Word::Quoted(_) | Word::Number(_) | Word::Text(_) => true,
         Word::Mark(mark) => matches!(mark, Mark::Close),
         Word::Key(key) => matches!(key, Keyword::Null | Keyword::True | Keyword::False),
         Word::Bad | Word::End => false,

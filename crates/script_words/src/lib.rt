@@ -1,12 +1,12 @@
 //! The words of a script: what a text is cut into before its statements are read. Each word has the line that it begins on.
+//!
+//! The words are a total function of the bytes, read by a machine with one state for each place within a word.
 #![tactic(auto)]
 
 mod keyword;
 mod lexer;
 mod plain_name;
 mod states;
-#[cfg(test)]
-mod tests;
 mod word;
 
 pub use keyword::Keyword;

@@ -185,7 +185,7 @@ impl Lexer {
             return self.refuse();
         }
         let name = self.take();
-        self.put(Word::Name(name))
+        self.put(Word::Quoted(name))
     }
 
     #[tactic(auto, unfolding(crate::specs::Words::in_text))]

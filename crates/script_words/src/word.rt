@@ -5,8 +5,10 @@ use plain_types::Bytes;
 #[derive(Debug, PartialEq, Drop)]
 pub enum Word {
     Key(Keyword),
-    /// A name, without the backquotes around it.
+    /// A name that stands without backquotes.
     Name(Bytes),
+    /// A name between backquotes, without them.
+    Quoted(Bytes),
     /// A number as it is spelled: digits, perhaps after a minus and perhaps with a fraction.
     Number(Bytes),
     /// A string, each doubled quote in it as one.

@@ -6,16 +6,16 @@ use Rattle.sql_statements.specs.declared.statement.Statement.{Statement}
 use Rattle.sql_statements.specs.Filter.{filter_of}
 use Rattle.sql_statements.specs.Tables.{branch_of}
 use Rattle.store_core.specs.Files.{Files, KeepsFiles}
-use Rattle.report_lines.specs.declared.answer.Answer.TheVariants as answer
+use Rattle.session_machine.specs.declared.answer.Answer.TheVariants as answer
 use Rattle.table_metadata.specs.Metadata.{Parts}
 use Rattle.table_state.specs.declared.live_set.BranchState.{BranchState}
 use Rattle.table_state.specs.Files.{current_schema, version_at}
 use Rattle.table_state.specs.Live.{branch_at, data_files_of, rows_at}
-use Rattle.table_state.proofs.Standing.{Stands, branch_rows_stand, branch_stands, option_stands, stands_then, version_stands}
+use Rattle.table_state.proofs.CallerLemmas.{Stands, branch_rows_stand, branch_stands, option_stands, stands_then, version_stands}
 use Rattle.table_scan.specs.Parting.{entry_of}
 use Rattle.table_scan.specs.Scanning.{scanned_at}
-use Rattle.table_scan.proofs.Standing.{scan_stands}
-use Rattle.conflict_rules.specs.Verdict.{is_absent, verdict}
+use Rattle.table_scan.proofs.CallerLemmas.{scan_stands}
+use Rattle.change_sets.specs.Verdict.{is_absent, verdict}
 use Rattle.session_machine.specs.declared.place.Phase.{Phase}
 use Rattle.session_machine.specs.declared.place.Phase.TheVariants as phase
 use Rattle.session_machine.specs.declared.place.Place.{Place}
@@ -27,7 +27,8 @@ module _ (now later : Files) (kept : KeepsFiles (Some now) (Some later)) (table 
   -- once the rows of the branch are read, by either side of a test
   answer_stands : (parts : Parts) (head : BranchState) → Stands now later kept (λ files. answer_of_branch table sources s files parts head)
   answer_stands parts head x e = by_side (is_absent head) x e where
-    by_side : (absent : Bool) → Stands now later kept (λ files. if absent then Ok (Some (answer.NoBranch (branch_of s))) else (current_schema parts >>= λ schema. rows_at table parts (branch_of s) files >>= λ rows. Ok (answer_on sources s schema.columns rows)))
+    by_side : (absent : Bool)
+        → Stands now later kept (λ files. if absent then Ok (Some (answer.NoBranch (branch_of s))) else (current_schema parts >>= λ schema. rows_at table parts (branch_of s) files >>= λ rows. Ok (answer_on sources s schema.columns rows)))
     by_side true x e = e
     by_side false x e =
         stands_then now later kept (λ files. current_schema parts) (λ schema files. rows_at table parts (branch_of s) files >>= λ rows. Ok (answer_on sources s schema.columns rows)) (λ y h. h)
@@ -68,7 +69,8 @@ module _ (now later : Files) (kept : KeepsFiles (Some now) (Some later)) (table 
   turn_of_stands current place phase.Swap x e = stands_then now later kept (λ files. version_at table place.planned files) (λ parts files. Ok (swap_turn current place parts.properties.retries)) (version_stands now later kept table place.planned) (λ parts y h. h) x e
 
 module _ (now later : Files) (kept : KeepsFiles (Some now) (Some later)) where
-  pub turn_stands : (table : List ℕ) (sources : List Source) (current : ℕ) (place : Place) (statements : List Statement) → Stands now later kept (λ files. turn table sources files current place statements)
+  pub turn_stands : (table : List ℕ) (sources : List Source) (current : ℕ) (place : Place) (statements : List Statement)
+      → Stands now later kept (λ files. turn table sources files current place statements)
   unfolding turn
   turn_stands table sources current place statements x e =
       option_stands now later kept (slice_get statements place.at) (λ s files. turn_of table sources files current place s place.phase) (Ok (rests current place)) (λ s. turn_of_stands now later kept table sources s current place place.phase) x e

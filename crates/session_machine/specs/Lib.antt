@@ -1,3 +1,4 @@
+pub mod Events
 pub mod Machine
 pub mod Plans
 pub mod Sights

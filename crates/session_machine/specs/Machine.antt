@@ -7,14 +7,14 @@ use Rattle.plain_types.specs.Steps.{◌>>=◌, by_option}
 use Rattle.sql_statements.specs.declared.statement.Source.{Source}
 use Rattle.sql_statements.specs.declared.statement.Statement.{Statement}
 use Rattle.store_core.specs.Files.{Files}
-use Rattle.report_lines.specs.declared.answer.Answer.{Answer}
-use Rattle.report_lines.specs.declared.answer.Answer.TheVariants as answer
-use Rattle.report_lines.specs.declared.event.Event.{Event}
-use Rattle.report_lines.specs.declared.event.EventKind.{EventKind}
-use Rattle.report_lines.specs.declared.event.EventKind.TheVariants as kind
-use Rattle.report_lines.specs.declared.event.Said.{Said}
-use Rattle.report_lines.specs.declared.event.Said.TheVariants as said
-use Rattle.report_lines.specs.declared.event.Stepped.{Stepped}
+use Rattle.session_machine.specs.declared.answer.Answer.{Answer}
+use Rattle.session_machine.specs.declared.answer.Answer.TheVariants as answer
+use Rattle.session_machine.specs.declared.event.Event.{Event}
+use Rattle.session_machine.specs.declared.event.EventKind.{EventKind}
+use Rattle.session_machine.specs.declared.event.EventKind.TheVariants as kind
+use Rattle.change_sets.specs.declared.said.Said.{Said}
+use Rattle.change_sets.specs.declared.said.Said.TheVariants as said
+use Rattle.session_machine.specs.declared.event.Stepped.{Stepped}
 use Rattle.table_state.specs.declared.load_fault.LoadFault.{LoadFault}
 use Rattle.table_state.specs.Files.{version_at}
 use Rattle.session_machine.specs.declared.place.Phase.{Phase}

@@ -18,9 +18,9 @@ use Rattle.sql_statements.specs.NewRows.{NewRow}
 use Rattle.sql_statements.specs.Tables.{branch_of}
 use Rattle.store_core.specs.Files.{Files}
 use Rattle.manifest_files.specs.declared.entry.Entry.{Entry}
-use Rattle.report_lines.specs.declared.answer.Answer.{Answer}
-use Rattle.report_lines.specs.declared.answer.Answer.TheVariants as answer
-use Rattle.report_lines.specs.declared.event.Said.{Said}
+use Rattle.session_machine.specs.declared.answer.Answer.{Answer}
+use Rattle.session_machine.specs.declared.answer.Answer.TheVariants as answer
+use Rattle.change_sets.specs.declared.said.Said.{Said}
 use Rattle.table_metadata.specs.Metadata.{Parts}
 use Rattle.table_state.specs.declared.live_set.BranchState.{BranchState}
 use Rattle.table_state.specs.declared.load_fault.LoadFault.{LoadFault}
@@ -28,7 +28,7 @@ use Rattle.table_state.specs.Files.{current_schema, version_at}
 use Rattle.table_state.specs.Live.{branch_at, data_files_of, rows_at}
 use Rattle.table_scan.specs.Parting.{entry_of}
 use Rattle.table_scan.specs.Scanning.{scanned_at}
-use Rattle.conflict_rules.specs.Verdict.{is_absent, verdict}
+use Rattle.change_sets.specs.Verdict.{is_absent, verdict}
 use Rattle.session_machine.specs.Plans.{plan_by}
 
 -- ---- why it is refused

@@ -8,5 +8,7 @@ ghost use Rattle.session_machine.specs.Machine.{Turned, turn};
 
 /// A step that the files tell is the same when files are added.
 pub fn a_turn_stands_when_files_are_added()
-    ensures { (table : Seq ℕ) (sources : Seq Source) (old new : Files) (current : ℕ) (place : Stand) (statements : Seq Statement) (turned : Turned) → KeepsFiles (Some old) (Some new) → turn table sources old current place statements ≡ Ok turned → turn table sources new current place statements ≡ Ok turned }
+    ensures { (table : Seq ℕ) (sources : Seq Source) (old new : Files) (current : ℕ) (place : Stand) (statements : Seq Statement)
+        (turned : Turned) → KeepsFiles (Some old) (Some new) → turn table sources old current place statements ≡ Ok turned
+        → turn table sources new current place statements ≡ Ok turned }
 {}

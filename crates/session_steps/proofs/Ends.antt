@@ -8,15 +8,15 @@ use Rattle.sql_statements.specs.declared.statement.Source.{Source}
 use Rattle.sql_statements.specs.declared.statement.Statement.{Statement}
 use Rattle.sql_statements.specs.Tables.{branch_of}
 use Rattle.store_core.specs.Files.{Files, bytes_of, swapped}
-use Rattle.file_names.specs.declared.names.Names.{Names}
-use Rattle.file_names.specs.FileNames.{NoneFrom}
-use Rattle.report_lines.specs.declared.event.Stepped.{Stepped}
+use Rattle.table_names.specs.declared.names.Names.{Names}
+use Rattle.table_names.specs.FileNames.{NoneFrom}
+use Rattle.session_machine.specs.declared.event.Stepped.{Stepped}
 use Rattle.commit_builder.specs.declared.commit.Prepared.{Prepared}
 use Rattle.table_names.specs.Versions.{version_of_name, version_prefix}
 use Rattle.session_machine.specs.declared.place.Phase.{Phase}
 use Rattle.session_machine.specs.declared.place.Phase.TheVariants as phase
 use Rattle.session_machine.specs.declared.place.Place.{Place}
-use Rattle.session_work.specs.Open.{IsOpen}
+use Rattle.session_steps.specs.Open.{IsOpen}
 use Rattle.session_steps.proofs.Swaps.{committed, is_missing, same_beside, still_free}
 use Rattle.session_steps.specs.declared.fault.RunFault.{RunFault}
 use Rattle.session_steps.specs.declared.fault.RunFault.TheVariants as run
@@ -45,13 +45,18 @@ all_at P (y ∷ ys) zero x all is = let same : y ≡ x = cc in subst P same all.
 all_at P (y ∷ ys) (suc n) x all is = all_at P ys n x all.1 is
 
 module _ (table : List ℕ) (schema : TableSchema) (sources : List Source) (old new : Files) (current : ℕ) (place : Place) (session : Session) (stepped : Stepped) (found : Option Statement) where
-  pub by_statement : (s : Statement) → found ≡ Some s → IsStep table schema sources s old new current place session stepped → IsStepOf table schema sources found old new current place session stepped
+  pub by_statement : (s : Statement) → found ≡ Some s → IsStep table schema sources s old new current place session stepped
+      → IsStepOf table schema sources found old new current place session stepped
   by_statement s is h = subst (λ (o : Option Statement). IsStepOf table schema sources o old new current place session stepped) (sym is) h
 
-pub nothing : (table : List ℕ) (schema : TableSchema) (sources : List Source) (old : Files) (current : ℕ) (session : Session) (found : Option Statement) → found ≡ None → IsStepOf table schema sources found old old current session.place session (record { event = None; answer = None })
+pub nothing : (table : List ℕ) (schema : TableSchema) (sources : List Source) (old : Files) (current : ℕ) (session : Session)
+    (found : Option Statement) → found ≡ None
+    → IsStepOf table schema sources found old old current session.place session (record { event = None; answer = None })
 nothing table schema sources old current session found is = subst (λ (o : Option Statement). IsStepOf table schema sources o old old current session.place session (record { event = None; answer = None })) (sym is) (refl, refl, refl)
 
-pub held_in : (table : List ℕ) (schema : TableSchema) (sources : List Source) (files : Files) (session : Session) (found : Option Statement) (s : Statement) (p : Phase) → found ≡ Some s → session.place.phase ≡ p → IsHeldOf table schema sources files session found → InPhase table schema sources s files session p
+pub held_in : (table : List ℕ) (schema : TableSchema) (sources : List Source) (files : Files) (session : Session)
+    (found : Option Statement) (s : Statement) (p : Phase) → found ≡ Some s → session.place.phase ≡ p
+    → IsHeldOf table schema sources files session found → InPhase table schema sources s files session p
 held_in table schema sources files session found s p is at h =
     subst (λ (q : Phase). InPhase table schema sources s files session q) at (subst (λ (o : Option Statement). IsHeldOf table schema sources files session o) is h)
 
@@ -67,7 +72,9 @@ some_of None h = absurd cc
 same_version : (first second : Prepared) (o : Option Prepared) → o ≡ Some first → o ≡ Some second → first ≡ second
 same_version first second o h k = cc
 
-pub version_missing : (table : List ℕ) (schema : TableSchema) (sources : List Source) (s : Statement) (files : Files) (current : ℕ) (session : Session) → IsOpen table schema files current → HasPrepared table schema sources s files session → (prepared : Prepared) → session.prepared ≡ Some prepared → map.get files prepared.name ≡ None
+pub version_missing : (table : List ℕ) (schema : TableSchema) (sources : List Source) (s : Statement) (files : Files)
+    (current : ℕ) (session : Session) → IsOpen table schema files current → HasPrepared table schema sources s files session
+    → (prepared : Prepared) → session.prepared ≡ Some prepared → map.get files prepared.name ≡ None
 version_missing table schema sources s files current session was has prepared made =
     subst (λ (p : Prepared). map.get files p.name ≡ None) (same_version has.prepared prepared session.prepared has.made made) (is_missing table schema sources s files current session was has)
 
@@ -94,7 +101,9 @@ module _ (table : List ℕ) (schema : TableSchema) (sources : List Source) (s : 
   swap_ends (run.Schema q) left = absurd left
   swap_ends (run.Limit q) left = absurd left
 
-  pub swap_ends_of : (found : Option Statement) → found ≡ Some s → (f : RunFault) → LeftBy has.prepared.name has.prepared.bytes old new f → (now : Files) × (new ≡ Some now) × EndsOf table schema sources found files now current f
+  pub swap_ends_of : (found : Option Statement) → found ≡ Some s → (f : RunFault)
+      → LeftBy has.prepared.name has.prepared.bytes old new f → (now : Files) × (new ≡ Some now)
+      × EndsOf table schema sources found files now current f
   swap_ends_of found is f left = subst (λ (o : Option Statement). (now : Files) × (new ≡ Some now) × EndsOf table schema sources o files now current f) (sym is) (swap_ends f left)
 
 -- ---- the files after a swap
@@ -109,7 +118,8 @@ none_stays prepared new (inr same) = same
 abbrev IsAtHand : List ℕ → TableSchema → List Source → Statement → Session → Files → Type 0
 IsAtHand table schema sources s session files = (current : ℕ) × IsOpen table schema files current × HasPrepared table schema sources s files session
 
-pub at_hand : (table : List ℕ) (schema : TableSchema) (sources : List Source) (statements : List Statement) (session : Session) (s : Statement) (old : Option Files) → slice_get statements session.place.at ≡ Some s → session.place.phase ≡ phase.Swap
+pub at_hand : (table : List ℕ) (schema : TableSchema) (sources : List Source) (statements : List Statement) (session : Session)
+    (s : Statement) (old : Option Files) → slice_get statements session.place.at ≡ Some s → session.place.phase ≡ phase.Swap
     → ForSome old (λ files. (current : ℕ) × IsOpen table schema files current) → ForSome old (λ files. IsHeldOf table schema sources files session (slice_get statements session.place.at)) → ForSome old (IsAtHand table schema sources s session)
 at_hand table schema sources statements session s old is at opens held = λ files told.
     ((opens files told).0, (opens files told).1, held_in table schema sources files session (slice_get statements session.place.at) s phase.Swap is at (held files told))
@@ -119,13 +129,17 @@ module _ (table : List ℕ) (schema : TableSchema) (sources : List Source) (s : 
   abbrev later_of : (files : Files) → IsAtHand table schema sources s session files → Files
   later_of files h = swapped h.2.prepared.name h.2.prepared.bytes files
 
-  free_by : (run from : ℕ) (text : List ℕ) (files : Files) (h : IsAtHand table schema sources s session files) (new : Option Files) → (new ≡ Some files) ⊎ (new ≡ Some (later_of files h)) → NoneFrom table run text from files → ForSome new (NoneFrom table run text from)
+  free_by : (run from : ℕ) (text : List ℕ) (files : Files) (h : IsAtHand table schema sources s session files)
+      (new : Option Files) → (new ≡ Some files) ⊎ (new ≡ Some (later_of files h)) → NoneFrom table run text from files
+      → ForSome new (NoneFrom table run text from)
   free_by run from text files h new (inl same) free = λ now is. let e : files ≡ now = cc in subst (λ (f : Files). NoneFrom table run text from f) e free
   free_by run from text files h new (inr same) free = λ now is.
       let e : later_of files h ≡ now = cc in
       subst (λ (f : Files). NoneFrom table run text from f) e (still_free table schema sources s files h.0 session h.1 h.2 run text from free)
 
-  pub free_after : (run from : ℕ) (text : List ℕ) (old new : Option Files) → Swaps session old new → ForSome old (IsAtHand table schema sources s session) → ForSome old (NoneFrom table run text from) → ForSome new (NoneFrom table run text from)
+  pub free_after : (run from : ℕ) (text : List ℕ) (old new : Option Files) → Swaps session old new
+      → ForSome old (IsAtHand table schema sources s session) → ForSome old (NoneFrom table run text from)
+      → ForSome new (NoneFrom table run text from)
   free_after run from text None new swaps held free =
       let version = some_of session.prepared some in
       let none = none_stays version.0 new (swaps version.0 version.1) in
@@ -134,11 +148,14 @@ module _ (table : List ℕ) (schema : TableSchema) (sources : List Source) (s : 
       let h = held files refl in
       free_by run from text files h new (swaps h.2.prepared h.2.made) (free files refl)
 
-  others_by : (files : Files) (h : IsAtHand table schema sources s session files) (new : Option Files) → (new ≡ Some files) ⊎ (new ≡ Some (later_of files h)) → (q : List ℕ) → version_of_name (version_prefix table) q ≡ 0 → bytes_of new q ≡ map.get files q
+  others_by : (files : Files) (h : IsAtHand table schema sources s session files) (new : Option Files)
+      → (new ≡ Some files) ⊎ (new ≡ Some (later_of files h)) → (q : List ℕ) → version_of_name (version_prefix table) q ≡ 0
+      → bytes_of new q ≡ map.get files q
   others_by files h new (inl same) q none = ap (λ (o : Option Files). bytes_of o q) same
   others_by files h new (inr same) q none = ap (λ (o : Option Files). bytes_of o q) same ∙ same_beside table schema sources s files h.0 session h.1 h.2 q none
 
-  pub others_after : (names : Names) (old new : Option Files) → Swaps session old new → ForSome old (IsAtHand table schema sources s session) → LeavesOthers table names old new
+  pub others_after : (names : Names) (old new : Option Files) → Swaps session old new
+      → ForSome old (IsAtHand table schema sources s session) → LeavesOthers table names old new
   others_after names None new swaps held q no_data no_metadata none =
       let version = some_of session.prepared some in
       ap (λ (o : Option Files). bytes_of o q) (none_stays version.0 new (swaps version.0 version.1))

@@ -6,14 +6,14 @@ use Rattle.sql_statements.specs.declared.statement.Statement.{Statement}
 use Rattle.sql_statements.specs.Tables.{branch_of}
 use Rattle.store_core.specs.Files.{Files}
 use Rattle.table_state.specs.declared.load_fault.LoadFault.TheVariants as load
-use Rattle.branch_validation.specs.declared.found.CommitFault.{CommitFault}
-use Rattle.branch_validation.specs.declared.found.CommitFault.TheVariants as commit
-use Rattle.branch_validation.specs.Validation.{CannotValidate}
+use Rattle.branch_commit.specs.declared.found.CommitFault.{CommitFault}
+use Rattle.branch_commit.specs.declared.found.CommitFault.TheVariants as commit
+use Rattle.branch_commit.specs.Validation.{CannotValidate}
 use Rattle.change_sets.specs.declared.change.Plan.{Plan}
-use Rattle.statement_plans.specs.declared.outcome.Pending.{Pending}
-use Rattle.statement_plans.specs.declared.outcome.PlanFault.{PlanFault}
-use Rattle.statement_plans.specs.declared.outcome.PlanFault.TheVariants as plan
-use Rattle.statement_plans.specs.Planning.{CannotPlan}
+use Rattle.branch_commit.specs.declared.outcome.Pending.{Pending}
+use Rattle.branch_commit.specs.declared.outcome.PlanFault.{PlanFault}
+use Rattle.branch_commit.specs.declared.outcome.PlanFault.TheVariants as plan
+use Rattle.branch_commit.specs.Planning.{CannotPlan}
 use Rattle.session_steps.specs.declared.fault.RunFault.{RunFault}
 use Rattle.session_steps.specs.declared.fault.RunFault.TheVariants as run
 use Rattle.session_steps.specs.declared.session.Session.{Session}
@@ -49,7 +49,9 @@ module _ (table : List ℕ) (schema : TableSchema) (s : Statement) (files : File
   same_pending : (a b : Pending) (o : Option Pending) → o ≡ Some a → o ≡ Some b → a ≡ b
   same_pending a b o h k = cc
 
-  pub by_commit : (sources : List Source) (session : Session) (pending : Pending) → session.pending ≡ Some pending → HasPending table schema sources s files session → (f : CommitFault) (fault : RunFault) → fault ≡ commit_fault f → CannotValidate table pending.plan.branch files f → CannotStep table schema s files fault
+  pub by_commit : (sources : List Source) (session : Session) (pending : Pending) → session.pending ≡ Some pending
+      → HasPending table schema sources s files session → (f : CommitFault) (fault : RunFault) → fault ≡ commit_fault f
+      → CannotValidate table pending.plan.branch files f → CannotStep table schema s files fault
   by_commit sources session pending held has f fault is why =
       let ours = subst (λ (p : Pending). CannotValidate table p.plan.branch files f) (same_pending pending has.pending session.pending held has.held) why in
       let planned = subst (λ (p : Plan). CannotValidate table p.branch files f) has.work.ready.fixed ours in
@@ -67,5 +69,6 @@ module _ (table : List ℕ) (schema : TableSchema) (files : Files) (found : Opti
   same_statement : (a b : Statement) → found ≡ Some a → found ≡ Some b → a ≡ b
   same_statement a b h k = cc
 
-  pub at_hand : (a s : Statement) → found ≡ Some a → found ≡ Some s → (fault : RunFault) → CannotStep table schema a files fault → CannotStep table schema s files fault
+  pub at_hand : (a s : Statement) → found ≡ Some a → found ≡ Some s → (fault : RunFault) → CannotStep table schema a files fault
+      → CannotStep table schema s files fault
   at_hand a s first second fault why = subst (λ (x : Statement). CannotStep table schema x files fault) (same_statement a s first second) why

@@ -1,10 +1,25 @@
-pub mod CommitFaults
-pub mod Ends
-pub mod Faulted
-pub mod Known
-pub mod OpenLaws
-pub mod Plans
-pub mod Resting
-pub mod StillNamed
-pub mod Swaps
-pub mod ValidateLaws
+pub mod CallerLemmas
+mod Changes
+mod CommitFaults
+mod Ends
+mod Faulted
+mod FormAfter
+mod Ids
+mod Keeping
+mod Known
+mod Loaded
+mod NextOpen
+mod NoVersions
+mod OneTable
+mod OneVersion
+mod OpenLaws
+mod Plans
+mod PlansFound
+mod Resting
+mod StaysOpen
+mod StillNamed
+mod Swaps
+mod ValidateLaws
+mod Validated
+mod VerdictsFound
+mod Written

@@ -8,7 +8,7 @@ use Rattle.sql_statements.specs.declared.statement.Statement.{Statement}
 use Rattle.sql_statements.specs.Tables.{branch_of}
 use Rattle.store_core.specs.Files.{Files}
 use Rattle.manifest_files.specs.declared.entry.Entry.{Entry}
-use Rattle.table_metadata.proofs.Coherence.{two_steps}
+use Rattle.plain_types.proofs.CallerLemmas.{two_steps}
 use Rattle.table_metadata.specs.Metadata.{Parts, parts}
 use Rattle.table_names.specs.Versions.{version_name, version_of}
 use Rattle.table_state.specs.declared.live_set.BranchState.{BranchState}
@@ -16,15 +16,15 @@ use Rattle.table_state.specs.declared.load_fault.LoadFault.{LoadFault}
 use Rattle.table_state.specs.declared.load_fault.LoadFault.TheVariants as fault
 use Rattle.table_state.specs.Files.{data_file_at, version_at}
 use Rattle.table_state.specs.Live.{branch_at, data_files_of, data_rows, live_of, rows_at, rows_of_branch}
-use Rattle.table_load.specs.declared.state.State.{State}
+use Rattle.table_state.specs.declared.state.State.{State}
 use Rattle.change_sets.specs.declared.scanned.ScannedFile.{ScannedFile}
 use Rattle.table_scan.specs.Scanning.{file_at, files_at, has_hit, in_path_order, scanned_at, with_rows}
-use Rattle.branch_validation.specs.Current.{IsCurrent, current_branch}
-use Rattle.committed_rows.specs.Committing.{filter_on}
-use Rattle.statement_plans.specs.Planning.{CannotRead}
-use Rattle.session_work.specs.Open.{IsOpen}
-use Rattle.step_laws.proofs.Loaded.{base_rows}
-use Rattle.step_laws.proofs.Planning.{at_current, has_schema, version_same}
+use Rattle.branch_commit.specs.Current.{IsCurrent, current_branch}
+use Rattle.branch_commit.specs.Committing.{filter_on}
+use Rattle.branch_commit.specs.Planning.{CannotRead}
+use Rattle.session_steps.specs.Open.{IsOpen}
+use Rattle.session_steps.proofs.Loaded.{base_rows}
+use Rattle.session_steps.proofs.PlansFound.{at_current, has_schema, version_same}
 use Rattle.session_steps.specs.declared.fault.RunFault.{RunFault}
 use Rattle.session_steps.specs.declared.fault.RunFault.TheVariants as run
 use Rattle.session_steps.specs.Faults.{CannotStep}
@@ -33,7 +33,8 @@ use Rattle.session_steps.specs.Outside.{IsOfOutside}
 -- ---- where the rows can be told
 
 -- so can the branch
-branch_told : (table branch : List ℕ) (version : ℕ) (files : Files) (rows : List (List Value)) → rows_of_branch table version branch files ≡ Ok rows → (head : BranchState) × (live_of table version branch files ≡ Ok head)
+branch_told : (table branch : List ℕ) (version : ℕ) (files : Files) (rows : List (List Value))
+    → rows_of_branch table version branch files ≡ Ok rows → (head : BranchState) × (live_of table version branch files ≡ Ok head)
 unfolding live_of rows_of_branch rows_at
 branch_told table branch version files rows told =
     let read = two_steps (version_at table version files) (λ p. rows_at table p branch files) rows told in
@@ -42,7 +43,9 @@ branch_told table branch version files rows told =
 
 -- and a scan of its data files, by any filter
 module _ (table : List ℕ) (p : Parts) (pred : Pred) (files : Files) where
-  files_told : (earlier : List ScannedFile) (before : List (List Value)) (entries : List Entry) (rows : List (List Value)) → data_rows table p before entries files ≡ Ok rows → (all : List ScannedFile) × (files_at table p pred earlier entries files ≡ Ok all)
+  files_told : (earlier : List ScannedFile) (before : List (List Value)) (entries : List Entry) (rows : List (List Value))
+      → data_rows table p before entries files ≡ Ok rows → (all : List ScannedFile)
+      × (files_at table p pred earlier entries files ≡ Ok all)
   unfolding data_rows file_at files_at
   files_told earlier before [] rows told = (earlier, refl)
   files_told earlier before (entry ∷ entries) rows told =
@@ -53,7 +56,8 @@ module _ (table : List ℕ) (p : Parts) (pred : Pred) (files : Files) where
         ap (λ (r : Result (List (List Value)) LoadFault). (r >>= λ found. Ok (with_rows pred entry found)) >>= λ file. files_at table p pred (earlier ++ file ∷ []) entries files) read.1 ∙ rest.1,
       )
 
-  scan_told : (entries : List Entry) (rows : List (List Value)) → data_rows table p [] entries files ≡ Ok rows → (scanned : List ScannedFile) × (scanned_at table p pred entries files ≡ Ok scanned)
+  scan_told : (entries : List Entry) (rows : List (List Value)) → data_rows table p [] entries files ≡ Ok rows
+      → (scanned : List ScannedFile) × (scanned_at table p pred entries files ≡ Ok scanned)
   scan_told entries rows told =
       let all = files_told [] [] entries rows told in
       (in_path_order [] (filter has_hit all.0), ap (λ (r : Result (List ScannedFile) LoadFault). r >>= λ found. Ok (in_path_order [] (filter has_hit found))) all.1)

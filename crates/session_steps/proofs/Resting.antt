@@ -6,16 +6,16 @@ use Rattle.row_values.specs.declared.schema.TableSchema.{TableSchema}
 use Rattle.sql_statements.specs.declared.statement.Source.{Source}
 use Rattle.sql_statements.specs.declared.statement.Statement.{Statement}
 use Rattle.store_core.specs.Files.{Files, KeepsFiles, bytes_of}
-use Rattle.file_names.specs.declared.names.Names.{Names}
-use Rattle.file_names.specs.FileNames.{data_name, metadata_name}
+use Rattle.table_names.specs.declared.names.Names.{Names}
+use Rattle.table_names.specs.FileNames.{data_name, metadata_name}
 use Rattle.table_metadata.specs.Metadata.{Parts, metadata_of}
 use Rattle.table_names.specs.Versions.{version_name, version_of_name, version_prefix}
 use Rattle.table_state.specs.declared.load_fault.LoadFault.{LoadFault}
 use Rattle.table_state.specs.declared.load_fault.LoadFault.TheVariants as fault
 use Rattle.table_state.specs.Files.{version_at}
-use Rattle.session_work.proofs.NoVersions.{of_data, of_metadata}
-use Rattle.session_work.proofs.StaysOpen.{stays_open}
-use Rattle.session_work.specs.Open.{IsOpen}
+use Rattle.session_steps.proofs.NoVersions.{of_data, of_metadata}
+use Rattle.session_steps.proofs.StaysOpen.{stays_open}
+use Rattle.session_steps.specs.Open.{IsOpen}
 use Rattle.session_steps.specs.declared.fault.RunFault.{RunFault}
 use Rattle.session_steps.specs.Steps.{EndsOf, IsAsBefore, LeavesOthers, LeavesRest}
 
@@ -25,10 +25,12 @@ use Rattle.session_steps.specs.Steps.{EndsOf, IsAsBefore, LeavesOthers, LeavesRe
 abbrev LeavesBut : (ℕ → List ℕ) → ℕ → Option Files → Option Files → Type 0
 LeavesBut put from old new = (q : List ℕ) → ((n : ℕ) → from ≤ n → q ≢ put n) → bytes_of new q ≡ bytes_of old q
 
-pub by_data : (table : List ℕ) (names : Names) (old new : Option Files) → LeavesBut (data_name table names.run names.session) names.next old new → LeavesRest table names old new
+pub by_data : (table : List ℕ) (names : Names) (old new : Option Files)
+    → LeavesBut (data_name table names.run names.session) names.next old new → LeavesRest table names old new
 by_data table names old new others q no_data no_metadata = others q (λ n above. no_data n)
 
-pub by_metadata : (table : List ℕ) (names : Names) (old new : Option Files) → LeavesBut (metadata_name table names.run names.session) names.next old new → LeavesRest table names old new
+pub by_metadata : (table : List ℕ) (names : Names) (old new : Option Files)
+    → LeavesBut (metadata_name table names.run names.session) names.next old new → LeavesRest table names old new
 by_metadata table names old new others q no_data no_metadata = others q (λ n above. no_metadata n)
 
 -- the same of a step that may add a version
@@ -37,12 +39,15 @@ rest_of table names old new rest q no_data no_metadata none = rest q no_data no_
 
 -- ---- what is told stays told
 
-held_by : (q : List ℕ) (f : LoadFault) (held : Parts) (found : Option (List ℕ)) → (or_fault f found >>= λ bytes. fault_as fault.Metadata (metadata_of bytes)) ≡ Ok held → (bytes : List ℕ) × (found ≡ Some bytes)
+held_by : (q : List ℕ) (f : LoadFault) (held : Parts) (found : Option (List ℕ))
+    → (or_fault f found >>= λ bytes. fault_as fault.Metadata (metadata_of bytes)) ≡ Ok held → (bytes : List ℕ)
+    × (found ≡ Some bytes)
 held_by q f held (Some bytes) e = (bytes, refl)
 held_by q f held None e = absurd cc
 
 -- the file of the current version
-current_file : (table : List ℕ) (schema : TableSchema) (files : Files) (current : ℕ) → IsOpen table schema files current → (bytes : List ℕ) × (map.get files (version_name table current) ≡ Some bytes)
+current_file : (table : List ℕ) (schema : TableSchema) (files : Files) (current : ℕ) → IsOpen table schema files current
+    → (bytes : List ℕ) × (map.get files (version_name table current) ≡ Some bytes)
 unfolding version_at
 current_file table schema files current was = held_by (version_name table current) (fault.Missing (version_name table current)) was.held (map.get files (version_name table current)) was.read
 
@@ -58,12 +63,14 @@ module _ (table : List ℕ) (schema : TableSchema) (files : Files) (current : �
       let none_is : version_of_name (version_prefix table) q ≡ 0 = ap (version_of_name (version_prefix table)) same ∙ none in
       omega arith
 
-  as_before : (later : Files) → KeepsFiles (Some files) (Some later) → LeavesRest table names (Some files) (Some later) → IsAsBefore table schema files later current
+  as_before : (later : Files) → KeepsFiles (Some files) (Some later) → LeavesRest table names (Some files) (Some later)
+      → IsAsBefore table schema files later current
   as_before later kept rest =
       let still = stays_open table schema files later current was kept (λ q is_version. rest q (λ n. not_of q (data_name table names.run names.session n) is_version (of_data table names.session names.run n)) (λ n. not_of q (metadata_name table names.run names.session n) is_version (of_metadata table names.session names.run n))) in
       record { was = was; still = still.0; rows = still.1 }
 
-  pub ends_as_before : (sources : List Source) (s : Statement) (f : RunFault) (found : Option Statement) (old new : Option Files) → found ≡ Some s → old ≡ Some files → KeepsFiles old new → LeavesRest table names old new
+  pub ends_as_before : (sources : List Source) (s : Statement) (f : RunFault) (found : Option Statement) (old new : Option Files)
+      → found ≡ Some s → old ≡ Some files → KeepsFiles old new → LeavesRest table names old new
       → (later : Files) × (new ≡ Some later) × EndsOf table schema sources found files later current f
   ends_as_before sources s f found old new found_is told kept rest =
       let here = current_file table schema files current was in

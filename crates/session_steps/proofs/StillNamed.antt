@@ -2,8 +2,8 @@
 use Rattle.std.proofs.Common.{◌≡◌, ◌⊎◌, inl, inr, ◌<◌, ◌^◌, ℕ, List, Option, Some, None, IsSome, is_some, option_map, refl, sym, ap, subst, ◌∙◌}
 use Rattle.std.specs.Str.{IsUtf8}
 use Rattle.store_core.specs.Files.{Files, swapped}
-use Rattle.file_names.specs.declared.names.Names.{Names}
-use Rattle.written_paths.specs.Sessions.{HasNoSlash}
+use Rattle.table_names.specs.declared.names.Names.{Names}
+use Rattle.table_names.specs.Sessions.{HasNoSlash}
 use Rattle.commit_builder.specs.NextVersion.{AreNames}
 use Rattle.commit_builder.specs.declared.commit.Prepared.{Prepared}
 
@@ -23,6 +23,8 @@ by_swap : (name bytes : List ℕ) (old new : Option Files) → (new ≡ old) ⊎
 by_swap name bytes old new (inl same) = ap is_some same
 by_swap name bytes old new (inr won) = ap is_some won ∙ mapped (swapped name bytes) old
 
-pub told_after : (held : Option Prepared) → IsSome held → (old new : Option Files) → ((prepared : Prepared) → held ≡ Some prepared → (new ≡ old) ⊎ (new ≡ option_map (swapped prepared.name prepared.bytes) old)) → is_some new ≡ is_some old
+pub told_after : (held : Option Prepared) → IsSome held → (old new : Option Files)
+    → ((prepared : Prepared) → held ≡ Some prepared → (new ≡ old) ⊎ (new ≡ option_map (swapped prepared.name prepared.bytes) old))
+    → is_some new ≡ is_some old
 told_after None there old new swaps = absurd cc
 told_after (Some prepared) there old new swaps = by_swap prepared.name prepared.bytes old new (swaps prepared refl)

@@ -9,14 +9,13 @@ use Rattle.sql_statements.specs.declared.statement.Source.{Source}
 use Rattle.sql_statements.specs.declared.statement.Statement.{Statement}
 use Rattle.sql_statements.specs.Effects.{result_of, rows_after}
 use Rattle.sql_statements.specs.Tables.{branch_of}
-use Rattle.store_core.proofs.FilesLemmas.{kept-swapped}
+use Rattle.store_core.proofs.CallerLemmas.{kept-swapped}
 use Rattle.store_core.specs.Files.{Files, swapped, with_file}
-use Rattle.file_names.proofs.Apart.{stands, stays}
-use Rattle.file_names.specs.FileNames.{NoneFrom, data_name, metadata_name}
-use Rattle.report_lines.specs.declared.answer.Answer.{Answer}
-use Rattle.report_lines.specs.declared.event.Stepped.{Stepped}
+use Rattle.table_names.proofs.CallerLemmas.{stands, stays, is_of}
+use Rattle.table_names.specs.FileNames.{NoneFrom, data_name, metadata_name}
+use Rattle.session_machine.specs.declared.answer.Answer.{Answer}
+use Rattle.session_machine.specs.declared.event.Stepped.{Stepped}
 use Rattle.table_metadata.specs.Metadata.{Parts, parts}
-use Rattle.table_names.proofs.VersionNames.{is_of}
 use Rattle.table_names.specs.Versions.{version_of_name, version_prefix}
 use Rattle.table_state.specs.declared.load_fault.LoadFault.{LoadFault}
 use Rattle.table_state.specs.Files.{version_at}
@@ -24,17 +23,18 @@ use Rattle.commit_builder.specs.declared.commit.Prepared.{Prepared}
 use Rattle.session_machine.specs.declared.place.Phase.{Phase}
 use Rattle.session_machine.specs.declared.place.Phase.TheVariants as phase
 use Rattle.session_machine.specs.Machine.{Turned, lost_turn, swap_turn, turn_of, won_turn}
-use Rattle.session_work.proofs.NoVersions.{of_data, of_metadata}
-use Rattle.session_work.specs.Open.{IsOpen}
-use Rattle.open_commits.proofs.NextOpen.{stays_open}
-use Rattle.open_commits.proofs.OneTable.{base_read}
-use Rattle.open_commits.proofs.OneVersion.{base_version, missing, name, small}
+use Rattle.session_steps.proofs.NoVersions.{of_data, of_metadata}
+use Rattle.session_steps.specs.Open.{IsOpen}
+use Rattle.session_steps.proofs.NextOpen.{stays_open}
+use Rattle.session_steps.proofs.OneTable.{base_read}
+use Rattle.session_steps.proofs.OneVersion.{base_version, missing, name, small}
 use Rattle.session_steps.specs.declared.session.Session.{Session}
 use Rattle.session_steps.specs.Steps.{HasPrepared, InPhase, IsCarriedOut, IsCommitted, IsStep, LeavesRows}
 
 -- ---- a swap under a name that is not there
 
-swapped_by : (files : Files) (q bytes : List ℕ) (held : Option (List ℕ)) → held ≡ None → cond (is_some held) files (with_file q bytes files) ≡ with_file q bytes files
+swapped_by : (files : Files) (q bytes : List ℕ) (held : Option (List ℕ)) → held ≡ None
+    → cond (is_some held) files (with_file q bytes files) ≡ with_file q bytes files
 swapped_by files q bytes None none = refl
 swapped_by files q bytes (Some old) none = absurd cc
 
@@ -81,7 +81,9 @@ module _ (table : List ℕ) (schema : TableSchema) (sources : List Source) (s : 
   -- ---- the table
 
   module _ (main : branch_of s ≡ codes "main") where
-    next_open : (next : IsOpen table schema later (current + 1)) × (result_of schema.columns sources s was.rows ≡ Ok (rows_after (length schema.columns) sources s was.rows)) × SameBag next.rows (rows_after (length schema.columns) sources s was.rows)
+    next_open : (next : IsOpen table schema later (current + 1))
+        × (result_of schema.columns sources s was.rows ≡ Ok (rows_after (length schema.columns) sources s was.rows))
+        × SameBag next.rows (rows_after (length schema.columns) sources s was.rows)
     next_open =
         stays_open table schema sources s files later current has.pending version was main has.work
         (ap (λ (f : Files). map.get f version.name) added ∙ stands files version.name version.bytes)

@@ -3,7 +3,7 @@
 use Rattle.std.proofs.Common.{◌≡◌, ◌≢◌, ◌+◌, ◌<◌, ◌≤◌, ◌^◌, ℕ, ℤ, Bool, true, List, Option, Some, None, Result, Ok, codes, refl, ap, sym, subst, ◌∙◌, ⊎_elim, inl, inr, arith}
 use Rattle.std.specs.FinMap as map
 use Rattle.std.specs.Option.{ForSome}
-use Rattle.plain_types.proofs.BagLaws.{SameBag-refl}
+use Rattle.plain_types.proofs.CallerLemmas.{SameBag-refl, one_value}
 use Rattle.plain_types.specs.Bags.{SameBag}
 use Rattle.plain_types.specs.Steps.{◌>>=◌}
 use Rattle.row_values.specs.declared.schema.Column.{Column}
@@ -14,48 +14,46 @@ use Rattle.sql_statements.specs.declared.statement.Statement.{Statement}
 use Rattle.sql_statements.specs.Effects.{refusal, result_of}
 use Rattle.sql_statements.specs.Tables.{branch_of}
 use Rattle.store_core.specs.Files.{Files, KeepsFiles}
-use Rattle.file_names.specs.declared.names.Names.{Names}
-use Rattle.file_names.specs.FileNames.{NoneFrom, metadata_name}
-use Rattle.report_lines.specs.declared.event.Said.{Said}
-use Rattle.report_lines.specs.declared.event.Said.TheVariants as said
-use Rattle.report_lines.specs.declared.event.Stepped.{Stepped}
-use Rattle.table_metadata.proofs.Coherence.{one_value}
+use Rattle.table_names.specs.declared.names.Names.{Names}
+use Rattle.table_names.specs.FileNames.{NoneFrom, metadata_name}
+use Rattle.change_sets.specs.declared.said.Said.{Said}
+use Rattle.change_sets.specs.declared.said.Said.TheVariants as said
+use Rattle.session_machine.specs.declared.event.Stepped.{Stepped}
 use Rattle.table_metadata.specs.Metadata.{Parts, parts}
-use Rattle.metadata_writer.specs.Fitting.{IsLong}
+use Rattle.iceberg_schema.specs.Widths.{IsLong}
 use Rattle.table_names.specs.Versions.{version_of, version_of_name, version_prefix}
 use Rattle.table_state.specs.declared.load_fault.LoadFault.{LoadFault}
 use Rattle.table_state.specs.Files.{current_schema}
 use Rattle.table_state.specs.Live.{data_files_of, rows_at, rows_of_branch}
-use Rattle.table_load.specs.declared.state.State.{State}
-use Rattle.table_load.specs.States.{IsStateOf}
+use Rattle.table_state.specs.declared.state.State.{State}
+use Rattle.table_state.specs.States.{IsStateOf}
 use Rattle.change_sets.specs.declared.change.Plan.{Plan}
 use Rattle.change_sets.specs.declared.scanned.ScannedFile.{ScannedFile}
-use Rattle.table_scan.proofs.Standing.{scan_stands}
+use Rattle.table_scan.proofs.CallerLemmas.{scan_stands, hits_refuse}
 use Rattle.commit_builder.specs.declared.commit.Prepared.{Prepared}
 use Rattle.commit_builder.specs.Commits.{files_after}
 use Rattle.commit_builder.specs.NextVersion.{AreNames}
-use Rattle.commit_builder.specs.Puts.{LeavesOthers as LeavesAllBut}
-use Rattle.conflict_rules.specs.Verdict.{verdict}
-use Rattle.decided_rows.proofs.HitLaws.{hits_refuse}
-use Rattle.committed_rows.proofs.Loads.{states_stand}
-use Rattle.committed_rows.specs.Committing.{IsScanned, columns_of, filter_on}
-use Rattle.branch_validation.specs.declared.found.Found.{Found}
-use Rattle.branch_validation.specs.declared.found.Found.TheVariants as found
-use Rattle.branch_validation.specs.declared.found.Validated.{Validated}
-use Rattle.branch_validation.specs.Current.{IsCurrent}
-use Rattle.branch_validation.specs.Validation.{IsLaid, IsSaid, IsValidated, is_no_change}
+use Rattle.commit_builder.specs.Puts.{PutsManifests}
+use Rattle.change_sets.specs.Verdict.{verdict}
+use Rattle.branch_commit.proofs.CallerLemmas.{states_stand}
+use Rattle.branch_commit.specs.Committing.{IsScanned, columns_of, filter_on}
+use Rattle.branch_commit.specs.declared.found.Found.{Found}
+use Rattle.branch_commit.specs.declared.found.Found.TheVariants as found
+use Rattle.branch_commit.specs.declared.found.Validated.{Validated}
+use Rattle.branch_commit.specs.Current.{IsCurrent}
+use Rattle.branch_commit.specs.Validation.{IsLaid, IsSaid, IsValidated, is_no_change}
 use Rattle.session_machine.specs.declared.place.Phase.TheVariants as phase
 use Rattle.session_machine.specs.declared.place.Place.{Place}
 use Rattle.session_machine.specs.Machine.{Turned, good_turn, turn_of, validate_turn}
 use Rattle.session_machine.specs.Sights.{keeps_all, keeps_at, verdict_at}
-use Rattle.statement_plans.specs.declared.outcome.Pending.{Pending}
-use Rattle.session_work.proofs.NoVersions.{of_metadata}
-use Rattle.session_work.proofs.StaysOpen.{stays_open}
-use Rattle.session_work.specs.Open.{IsOpen}
-use Rattle.session_work.specs.Work.{IsPending, IsSwapping}
-use Rattle.step_laws.proofs.Keeping.{leaves_all}
-use Rattle.step_laws.proofs.Loaded.{are_as_wide, base_rows, columns_are, one_current, scan_is}
-use Rattle.step_laws.proofs.Validating.{keeps_found, verdict_found}
+use Rattle.branch_commit.specs.declared.outcome.Pending.{Pending}
+use Rattle.session_steps.proofs.NoVersions.{of_metadata}
+use Rattle.session_steps.proofs.StaysOpen.{stays_open}
+use Rattle.session_steps.specs.Open.{IsOpen}
+use Rattle.session_steps.specs.Work.{IsPending, IsSwapping}
+use Rattle.session_steps.proofs.Keeping.{leaves_all}
+use Rattle.session_steps.proofs.Loaded.{are_as_wide, base_rows, columns_are, one_current, scan_is}
+use Rattle.session_steps.proofs.VerdictsFound.{keeps_found, verdict_found}
 use Rattle.session_steps.specs.Choices.{is_unchanged, prepared_of, said_of}
 use Rattle.session_steps.specs.Steps.{HasPending, InPhase, IsStep, LeavesRows}
 use Rattle.session_steps.specs.declared.session.Session.{Session}
@@ -66,10 +64,12 @@ not_both : (n : ℕ) → n ≡ 0 → 0 < n → ⊥
 not_both n none some = omega (arith, none, some)
 
 -- a name of a version is none of a file that a commit puts
-apart : (table : List ℕ) (names : Names) (name : List ℕ) → 0 < version_of_name (version_prefix table) name → (n : ℕ) → name ≢ metadata_name table names.run names.session n
+apart : (table : List ℕ) (names : Names) (name : List ℕ) → 0 < version_of_name (version_prefix table) name → (n : ℕ)
+    → name ≢ metadata_name table names.run names.session n
 apart table names name is_version n same = not_both (version_of_name (version_prefix table) name) (ap (version_of_name (version_prefix table)) same ∙ of_metadata table names.session names.run n) is_version
 
-versions_stay : (table : List ℕ) (names : Names) (old new : Files) → LeavesAllBut table names (Some old) (Some new) → (name : List ℕ) → 0 < version_of_name (version_prefix table) name → map.get new name ≡ map.get old name
+versions_stay : (table : List ℕ) (names : Names) (old new : Files) → PutsManifests table names (Some old) (Some new)
+    → (name : List ℕ) → 0 < version_of_name (version_prefix table) name → map.get new name ≡ map.get old name
 versions_stay table names old new others name is_version = others name (λ n from. apart table names name is_version n)
 
 -- ---- of a statement that was planned on the open table
@@ -140,7 +140,7 @@ module _ (table : List ℕ) (schema : TableSchema) (sources : List Source) (s : 
 
   -- ---- where it is validated
 
-  module _ (new : Files) (names after : Names) (now : ℤ) (validated : Validated) (is : IsValidated pending.plan pending.change (data_files_of base.head) names now table old (Some new) after validated) (others : LeavesAllBut table names (Some old) (Some new)) (kept : KeepsFiles (Some old) (Some new)) where
+  module _ (new : Files) (names after : Names) (now : ℤ) (validated : Validated) (is : IsValidated pending.plan pending.change (data_files_of base.head) names now table old (Some new) after validated) (others : PutsManifests table names (Some old) (Some new)) (kept : KeepsFiles (Some old) (Some new)) where
     abbrev verdict_is : Said
     verdict_is = verdict pending.plan pending.change.depended (data_files_of base.head) is.head.head
 
@@ -156,7 +156,8 @@ module _ (table : List ℕ) (schema : TableSchema) (sources : List Source) (s : 
     at_current : validated.version ≡ current
     at_current = is.at ∙ one_current is.head.version current (version_of table old) loaded.current was.newest
 
-    laid_good : (words : Said) (prepared : Prepared) → IsAt words (found.Good prepared) → IsLaid pending.plan pending.change names now is.head old (Some new) after (found.Good prepared)
+    laid_good : (words : Said) (prepared : Prepared) → IsAt words (found.Good prepared)
+        → IsLaid pending.plan pending.change names now is.head old (Some new) after (found.Good prepared)
     laid_good said.Good prepared found_so = found_so
     laid_good (said.Conflict rule name) prepared (same, files_same, names_same) = absurd cc
 
@@ -225,7 +226,8 @@ module _ (table : List ℕ) (schema : TableSchema) (sources : List Source) (s : 
         }
 
         module _ (session : Session) (prepared_is : session.prepared ≡ prepared_of validated.found) (pending_is : (prepared : Prepared) → validated.found ≡ found.Good prepared → session.pending ≡ Some pending) where
-          held_by : (f : Found) → validated.found ≡ f → IsAt verdict_is f → session.place ≡ (found_turn f).place → InPhase table schema sources s new session (found_turn f).place.phase
+          held_by : (f : Found) → validated.found ≡ f → IsAt verdict_is f → session.place ≡ (found_turn f).place
+              → InPhase table schema sources s new session (found_turn f).place.phase
           held_by (found.Good prepared) found_is found_so place_is = record {
             pending = pending;
             prepared = prepared;
@@ -243,7 +245,9 @@ module _ (table : List ℕ) (schema : TableSchema) (sources : List Source) (s : 
               let from_found : session.place ≡ (found_turn validated.found).place = place_is ∙ ap (λ (t : Turned). t.place) is_turn in
               subst (λ (at : Place). InPhase table schema sources s new session at.phase) (sym from_found) (held_by validated.found refl is.is from_found)
 
-          pub step_is : place.phase ≡ phase.Validate → (stepped : Stepped) → found_turn validated.found ≡ record { current = validated.version; place = session.place; stepped = stepped } → IsStep table schema sources s old new current place session stepped
+          pub step_is : place.phase ≡ phase.Validate → (stepped : Stepped)
+              → found_turn validated.found ≡ record { current = validated.version; place = session.place; stepped = stepped }
+              → IsStep table schema sources s old new current place session stepped
           step_is is_validate stepped turned = record {
             was = was;
             next = current;
@@ -269,13 +273,18 @@ module _ (table : List ℕ) (schema : TableSchema) (sources : List Source) (s : 
   planned = has.planned ∙ ap (λ (one : Pending). one.base.version) same_pending
 
   module _ (names after : Names) (now : ℤ) (validated : Validated) (named : AreNames names) (hour : IsLong now) (room : names.next < 2 ^ 126) (few : after.next ≤ names.next + 2 ^ 100) where
-    told : (head : State) (files : Option Files) (words : Said) (f : Found) → IsSaid pending.plan pending.change (data_files_of pending.base.head) names now words head old files after f → (new : Files) × (files ≡ Some new)
+    told : (head : State) (files : Option Files) (words : Said) (f : Found)
+        → IsSaid pending.plan pending.change (data_files_of pending.base.head) names now words head old files after f
+        → (new : Files) × (files ≡ Some new)
     told head files said.Good (found.Good prepared) is = (files_after head pending.change names old, is.files)
     told head files said.Good found.Unchanged is = (old, is.1)
     told head files said.Good (found.Conflict rule name) is = absurd is
     told head files (said.Conflict rule name) f is = (old, is.1)
 
-    pub validation_steps : (first last : Option Files) → first ≡ Some old → IsValidated pending.plan pending.change (data_files_of pending.base.head) names now table old last after validated → ForSome first (NoneFrom table names.run names.session names.next) → LeavesAllBut table names first last → KeepsFiles first last
+    pub validation_steps : (first last : Option Files) → first ≡ Some old
+        → IsValidated pending.plan pending.change (data_files_of pending.base.head) names now table old last after validated
+        → ForSome first (NoneFrom table names.run names.session names.next) → PutsManifests table names first last
+        → KeepsFiles first last
         → (session : Session) → session.prepared ≡ prepared_of validated.found → ((prepared : Prepared) → validated.found ≡ found.Good prepared → session.pending ≡ Some pending) → before.place.phase ≡ phase.Validate → (stepped : Stepped)
         → validate_turn validated.version before.place (is_unchanged validated.found) (said_of validated.found) ≡ record { current = validated.version; place = session.place; stepped = stepped }
         → (new : Files) × (last ≡ Some new) × IsStep table schema sources s old new current before.place session stepped
@@ -283,7 +292,7 @@ module _ (table : List ℕ) (schema : TableSchema) (sources : List Source) (s : 
         let both : (new : Files) × (last ≡ Some new) = told is.head last (verdict pending.plan pending.change.depended (data_files_of pending.base.head) is.head.head) validated.found is.is in
         let new : Files = both.0 in
         let is_last : last ≡ Some new = both.1 in
-        let left : LeavesAllBut table names (Some old) (Some new) = subst (λ (o : Option Files). LeavesAllBut table names (Some old) o) is_last (subst (λ (o : Option Files). LeavesAllBut table names o last) is_first others) in
+        let left : PutsManifests table names (Some old) (Some new) = subst (λ (o : Option Files). PutsManifests table names (Some old) o) is_last (subst (λ (o : Option Files). PutsManifests table names o last) is_first others) in
         let keeps : KeepsFiles (Some old) (Some new) = subst (λ (o : Option Files). KeepsFiles (Some old) o) is_last (subst (λ (o : Option Files). KeepsFiles o last) is_first kept) in
         let so : IsValidated pending.plan pending.change (data_files_of pending.base.head) names now table old (Some new) after validated =
         subst (λ (o : Option Files). IsValidated pending.plan pending.change (data_files_of pending.base.head) names now table old o after validated) is_last is

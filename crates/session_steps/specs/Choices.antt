@@ -3,16 +3,16 @@ use Rattle.std.specs.Prelude.{Bool, true, false, List, Option, Some, None}
 use Rattle.row_values.specs.declared.schema.Column.{Column}
 use Rattle.sql_statements.specs.declared.statement.Statement.{Statement}
 use Rattle.sql_statements.specs.Tables.{branch_of}
-use Rattle.report_lines.specs.declared.answer.Answer.{Answer}
-use Rattle.report_lines.specs.declared.answer.Answer.TheVariants as answer
-use Rattle.report_lines.specs.declared.event.Said.{Said}
-use Rattle.report_lines.specs.declared.event.Said.TheVariants as said
+use Rattle.session_machine.specs.declared.answer.Answer.{Answer}
+use Rattle.session_machine.specs.declared.answer.Answer.TheVariants as answer
+use Rattle.change_sets.specs.declared.said.Said.{Said}
+use Rattle.change_sets.specs.declared.said.Said.TheVariants as said
 use Rattle.commit_builder.specs.declared.commit.Prepared.{Prepared}
-use Rattle.branch_validation.specs.declared.found.Found.{Found}
-use Rattle.branch_validation.specs.declared.found.Found.TheVariants as found
-use Rattle.statement_plans.specs.declared.outcome.Outcome.{Outcome}
-use Rattle.statement_plans.specs.declared.outcome.Outcome.TheVariants as outcome
-use Rattle.statement_plans.specs.declared.outcome.Pending.{Pending}
+use Rattle.branch_commit.specs.declared.found.Found.{Found}
+use Rattle.branch_commit.specs.declared.found.Found.TheVariants as found
+use Rattle.branch_commit.specs.declared.outcome.Outcome.{Outcome}
+use Rattle.branch_commit.specs.declared.outcome.Outcome.TheVariants as outcome
+use Rattle.branch_commit.specs.declared.outcome.Pending.{Pending}
 use Rattle.session_machine.specs.Sights.{refused_as}
 
 -- the answer at the plan, where there is one

@@ -9,12 +9,12 @@ use Rattle.table_state.specs.declared.load_fault.LoadFault.{LoadFault}
 use Rattle.table_state.specs.declared.load_fault.LoadFault.TheVariants as load
 use Rattle.branch_commit.specs.declared.swapping.SwapFault.{SwapFault}
 use Rattle.branch_commit.specs.declared.swapping.SwapFault.TheVariants as swap
-use Rattle.branch_validation.specs.declared.found.CommitFault.{CommitFault}
-use Rattle.branch_validation.specs.declared.found.CommitFault.TheVariants as commit
-use Rattle.branch_validation.specs.Validation.{CannotValidate}
-use Rattle.statement_plans.specs.declared.outcome.PlanFault.{PlanFault}
-use Rattle.statement_plans.specs.declared.outcome.PlanFault.TheVariants as plan
-use Rattle.statement_plans.specs.Planning.{CannotPlan, CannotRead}
+use Rattle.branch_commit.specs.declared.found.CommitFault.{CommitFault}
+use Rattle.branch_commit.specs.declared.found.CommitFault.TheVariants as commit
+use Rattle.branch_commit.specs.Validation.{CannotValidate}
+use Rattle.branch_commit.specs.declared.outcome.PlanFault.{PlanFault}
+use Rattle.branch_commit.specs.declared.outcome.PlanFault.TheVariants as plan
+use Rattle.branch_commit.specs.Planning.{CannotPlan, CannotRead}
 use Rattle.session_machine.specs.declared.place.Place.{Place}
 use Rattle.session_steps.specs.declared.fault.RunFault.{RunFault}
 use Rattle.session_steps.specs.declared.fault.RunFault.TheVariants as run

@@ -3,9 +3,9 @@
 use Rattle.std.specs.Prelude.{◌≡◌, false, ℕ, codes, List}
 use Rattle.store_core.specs.Files.{Files}
 use Rattle.table_names.specs.Versions.{version_name}
-use Rattle.table_load.specs.declared.state.State.{State}
-use Rattle.branch_validation.specs.Current.{IsCurrent}
-use Rattle.branch_validation.specs.Next.{has_next}
+use Rattle.table_state.specs.declared.state.State.{State}
+use Rattle.branch_commit.specs.Current.{IsCurrent}
+use Rattle.branch_commit.specs.Next.{has_next}
 use Rattle.session_steps.specs.declared.fault.RunFault.{RunFault}
 use Rattle.session_steps.specs.declared.fault.RunFault.TheVariants as run
 

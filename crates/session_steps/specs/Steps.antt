@@ -12,21 +12,21 @@ use Rattle.sql_statements.specs.declared.statement.Statement.{Statement}
 use Rattle.sql_statements.specs.Effects.{result_of}
 use Rattle.sql_statements.specs.Tables.{branch_of}
 use Rattle.store_core.specs.Files.{Files, bytes_of, swapped}
-use Rattle.file_names.specs.declared.names.Names.{Names}
-use Rattle.file_names.specs.FileNames.{data_name, metadata_name}
-use Rattle.report_lines.specs.declared.answer.Answer.{Answer}
-use Rattle.report_lines.specs.declared.answer.Answer.TheVariants as answer
-use Rattle.report_lines.specs.declared.event.Stepped.{Stepped}
+use Rattle.table_names.specs.declared.names.Names.{Names}
+use Rattle.table_names.specs.FileNames.{data_name, metadata_name}
+use Rattle.session_machine.specs.declared.answer.Answer.{Answer}
+use Rattle.session_machine.specs.declared.answer.Answer.TheVariants as answer
+use Rattle.session_machine.specs.declared.event.Stepped.{Stepped}
 use Rattle.table_names.specs.Versions.{version_of_name, version_prefix}
 use Rattle.commit_builder.specs.declared.commit.Prepared.{Prepared}
-use Rattle.statement_plans.specs.declared.outcome.Pending.{Pending}
-use Rattle.statement_plans.specs.Planning.{IsOfColumns}
+use Rattle.branch_commit.specs.declared.outcome.Pending.{Pending}
+use Rattle.branch_commit.specs.Planning.{IsOfColumns}
 use Rattle.session_machine.specs.declared.place.Phase.{Phase}
 use Rattle.session_machine.specs.declared.place.Phase.TheVariants as phase
 use Rattle.session_machine.specs.declared.place.Place.{Place}
 use Rattle.session_machine.specs.Machine.{turn_of}
-use Rattle.session_work.specs.Open.{IsOpen}
-use Rattle.session_work.specs.Work.{IsPending, IsSwapping}
+use Rattle.session_steps.specs.Open.{IsOpen}
+use Rattle.session_steps.specs.Work.{IsPending, IsSwapping}
 use Rattle.session_steps.specs.declared.fault.RunFault.{RunFault}
 use Rattle.session_steps.specs.declared.fault.RunFault.TheVariants as run
 use Rattle.session_steps.specs.declared.session.Session.{Session}
@@ -76,7 +76,8 @@ LeavesRows sources columns s other before after = after ≡ before
 
 -- ---- steps
 
-pub record IsStep (table : List ℕ) (schema : TableSchema) (sources : List Source) (s : Statement) (old new : Files) (current : ℕ) (place : Place) (session : Session) (stepped : Stepped) : Type 0 where
+pub record IsStep (table : List ℕ) (schema : TableSchema) (sources : List Source) (s : Statement) (old new : Files) (current : ℕ)
+    (place : Place) (session : Session) (stepped : Stepped) : Type 0 where
   pub was : IsOpen table schema old current
   pub next : ℕ
   pub turned : turn_of table sources old current place s place.phase ≡ Ok (record { current = next; place = session.place; stepped = stepped })

@@ -2,11 +2,9 @@
 ghost use Rattle.std.specs.Prelude.{◌≡◌};
 ghost use Rattle.session_steps.specs.Faults.{commit_fault, load_fault, plan_fault, swap_fault};
 
-use branch_commit::SwapFault;
-use branch_validation::CommitFault;
+use branch_commit::{CommitFault, PlanFault, SwapFault};
 use plain_types::Text;
 use session_machine::Place;
-use statement_plans::PlanFault;
 use table_state::LoadFault;
 
 /// Why a step is not made to its end.

@@ -3,26 +3,24 @@ ghost use Rattle.std.specs.Prelude.{◌≡◌, ◌≤◌, ◌<◌, ◌+◌, ◌^
 ghost use Rattle.std.specs.Option.{ForSome};
 ghost use Rattle.plain_types.specs.Causes.{HasCause};
 ghost use Rattle.store_core.specs.Files.{Files, KeepsFiles};
-ghost use Rattle.file_names.specs.FileNames.{NoneFrom};
+ghost use Rattle.table_names.specs.FileNames.{NoneFrom};
 ghost use Rattle.sql_statements.specs.Tables.{branch_of};
 ghost use Rattle.commit_builder.specs.NextVersion.{AreNames};
-ghost use Rattle.statement_plans.specs.Planning.{IsOfColumns};
+ghost use Rattle.branch_commit.specs.Planning.{IsOfColumns};
 ghost use Rattle.session_machine.specs.Machine.{plan_turn};
 ghost use Rattle.session_machine.specs.Sights.{name_of_column, refused_as};
-ghost use Rattle.session_work.specs.Open.{IsOpen};
+ghost use Rattle.session_steps.specs.Open.{IsOpen};
 ghost use Rattle.session_steps.specs.Faults.{CannotStep};
 ghost use Rattle.session_steps.specs.Choices.{answer_of, pending_of};
 ghost use Rattle.session_steps.specs.Steps.{HasShape, IsStep, LeavesRest};
 
 use crate::fault::{RunFault, plan_fault};
 use crate::session::{NAMES_END, Session};
+use branch_commit::{Outcome, Planned, plan};
 use plain_types::Text;
-use plan_builder::plan;
-use report_lines::{Answer, EventKind, Stepped};
 use row_values::{Column, TableSchema};
-use session_machine::{Phase, Place};
+use session_machine::{Answer, EventKind, Phase, Place, Stepped};
 use sql_statements::{Source, SqlRefusal, Statement};
-use statement_plans::{Outcome, Planned};
 use std::alloc::{AllocError, Global};
 use store_core::Store;
 
@@ -99,7 +97,9 @@ pub(crate) fn plan_step<S: Store>(
     requires main { branch_of statement.now ≡ codes "main" }
     requires named { AreNames session.old.names }
     requires free { ForSome (S.files store.old) (NoneFrom table.now session.old.names.run session.old.names.session session.old.names.next) }
-    ensures step { IfOk result (λ stepped. ForSome (S.files store.old) (λ old. (current : ℕ) → IsOpen table.now schema.now old current → (new : Files) × (S.files store.new ≡ Some new) × IsStep table.now schema.now sources.now statement.now old new current session.old.place session.new stepped)) }
+    ensures step { IfOk result (λ stepped. ForSome (S.files store.old)
+        (λ old. (current : ℕ) → IsOpen table.now schema.now old current → (new : Files) × (S.files store.new ≡ Some new)
+        × IsStep table.now schema.now sources.now statement.now old new current session.old.place session.new stepped)) }
     ensures faulted { IfErr result (λ fault. ForSome (S.files store.old) (λ old. CannotStep table.now schema.now statement.now old fault)) }
     ensures shape { OnOk result (HasShape session.new) }
     ensures session { (session.new.names.run ≡ session.old.names.run) × (session.new.names.session ≡ session.old.names.session) }

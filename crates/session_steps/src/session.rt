@@ -1,10 +1,9 @@
 //! A session at work.
 
+use branch_commit::Pending;
 use commit_builder::Prepared;
-use file_names::Names;
-use report_lines::{Answer, Event, EventKind, Stepped};
-use session_machine::{Phase, Place};
-use statement_plans::Pending;
+use session_machine::{Answer, Event, EventKind, Phase, Place, Stepped};
+use table_names::Names;
 
 /// No session draws so many names: a step draws fewer than 2^101, and a session has fewer than 2^24 steps.
 pub(crate) const NAMES_END: u128 = 1 << 126;

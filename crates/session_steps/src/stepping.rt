@@ -4,10 +4,10 @@ ghost use Rattle.std.specs.Option.{ForSome};
 ghost use Rattle.plain_types.specs.Causes.{Rose, RoseTwice};
 ghost use Rattle.sql_statements.specs.declared.statement.Statement.{Statement as Stated};
 ghost use Rattle.store_core.specs.Files.{Files, KeepsFiles};
-ghost use Rattle.file_names.specs.FileNames.{NoneFrom};
+ghost use Rattle.table_names.specs.FileNames.{NoneFrom};
 ghost use Rattle.commit_builder.specs.NextVersion.{AreNames};
-ghost use Rattle.metadata_writer.specs.Fitting.{IsLong};
-ghost use Rattle.session_work.specs.Open.{IsOpen};
+ghost use Rattle.iceberg_schema.specs.Widths.{IsLong};
+ghost use Rattle.session_steps.specs.Open.{IsOpen};
 ghost use Rattle.session_steps.specs.Faults.{CannotStep};
 ghost use Rattle.session_steps.specs.Steps.{AreWorkable, EndsOf, HasShape, IsHeld, IsStepOf, LeavesOthers};
 
@@ -16,9 +16,8 @@ use crate::planning::plan_step;
 use crate::session::Session;
 use crate::swapping::swap_step;
 use crate::validating::validate_step;
-use report_lines::Stepped;
 use row_values::TableSchema;
-use session_machine::Phase;
+use session_machine::{Phase, Stepped};
 use sql_statements::{Source, Statement};
 use std::alloc::Global;
 use store_core::Store;
@@ -41,9 +40,15 @@ pub fn step<S: Store>(
     requires free { ForSome (S.files store.old) (NoneFrom table.now session.old.names.run session.old.names.session session.old.names.next) }
     requires open { ForSome (S.files store.old) (λ old. (current : ℕ) × IsOpen table.now schema.now old current) }
     requires held { ForSome (S.files store.old) (λ old. IsHeld table.now schema.now sources.now statements.now old session.old) }
-    ensures steps { IfOk result (λ stepped. ForSome (S.files store.old) (λ old. (current : ℕ) → IsOpen table.now schema.now old current → (new : Files) × (S.files store.new ≡ Some new) × IsStepOf table.now schema.now sources.now (slice_get statements.now session.old.place.at) old new current session.old.place session.new stepped)) }
-    ensures ends { IfErr result (λ fault. ForSome (S.files store.old) (λ old. (current : ℕ) → IsOpen table.now schema.now old current → (new : Files) × (S.files store.new ≡ Some new) × EndsOf table.now schema.now sources.now (slice_get statements.now session.old.place.at) old new current fault)) }
-    ensures faulted { IfErr result (λ fault. ForSome (S.files store.old) (λ old. (s : Stated) → slice_get statements.now session.old.place.at ≡ Some s → CannotStep table.now schema.now s old fault)) }
+    ensures steps { IfOk result (λ stepped. ForSome (S.files store.old)
+        (λ old. (current : ℕ) → IsOpen table.now schema.now old current → (new : Files) × (S.files store.new ≡ Some new)
+        × IsStepOf table.now schema.now sources.now (slice_get statements.now session.old.place.at) old new current session.old.place session.new stepped)) }
+    ensures ends { IfErr result (λ fault. ForSome (S.files store.old)
+        (λ old. (current : ℕ) → IsOpen table.now schema.now old current → (new : Files) × (S.files store.new ≡ Some new)
+        × EndsOf table.now schema.now sources.now (slice_get statements.now session.old.place.at) old new current fault)) }
+    ensures faulted { IfErr result (λ fault. ForSome (S.files store.old)
+        (λ old. (s : Stated) → slice_get statements.now session.old.place.at ≡ Some s
+        → CannotStep table.now schema.now s old fault)) }
     ensures shape { OnOk result (HasShape session.new) }
     ensures session { (session.new.names.run ≡ session.old.names.run) × (session.new.names.session ≡ session.old.names.session) }
     ensures named { AreNames session.new.names }
@@ -54,8 +59,10 @@ pub fn step<S: Store>(
     // What a fault needs of the counts.
     ensures later { S.faults store.old ≤ S.faults store.new }
     ensures store { IsErrOf result RunFault.Store → Rose (S.faults store.old) (S.faults store.new) × (0 < S.unsettled store.new) }
-    ensures unknown { (number statement : ℕ) → IsErrOf result (RunFault.Unknown number statement) → RoseTwice (S.faults store.old) (S.faults store.new) × (2 ≤ S.unsettled store.new) }
-    ensures at_hand { (number statement : ℕ) → IsErrOf result (RunFault.Unknown number statement) → (number ≡ session.old.place.session) × (statement ≡ session.old.place.at) }
+    ensures unknown { (number statement : ℕ) → IsErrOf result (RunFault.Unknown number statement)
+        → RoseTwice (S.faults store.old) (S.faults store.new) × (2 ≤ S.unsettled store.new) }
+    ensures at_hand { (number statement : ℕ) → IsErrOf result (RunFault.Unknown number statement)
+        → (number ≡ session.old.place.session) × (statement ≡ session.old.place.at) }
     ensures quiet { OnOk result ((S.faults store.new ≡ S.faults store.old) ⊎ (S.unsettled store.new ≡ 0)) }
 {
     let statement = match statements.get(session.place.at) {

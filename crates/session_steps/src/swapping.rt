@@ -10,16 +10,15 @@ ghost use Rattle.sql_statements.specs.Tables.{branch_of};
 ghost use Rattle.store_core.specs.Files.{Files, KeepsFiles, swapped};
 ghost use Rattle.branch_commit.specs.Settled.{Leaves};
 ghost use Rattle.commit_builder.specs.declared.commit.Prepared.{Prepared as Version};
-ghost use Rattle.statement_plans.specs.declared.outcome.Pending.{Pending as Pends};
+ghost use Rattle.branch_commit.specs.declared.outcome.Pending.{Pending as Pends};
 ghost use Rattle.session_machine.specs.Machine.{lost_turn, won_turn};
-ghost use Rattle.session_work.specs.Open.{IsOpen};
+ghost use Rattle.session_steps.specs.Open.{IsOpen};
 ghost use Rattle.session_steps.specs.Steps.{HasPrepared, HasShape, IsStep, LeftBy};
 
 use crate::fault::{RunFault, swap_fault};
 use crate::session::Session;
 use branch_commit::{SwapAnswer, SwapFault, swap};
-use report_lines::{Answer, EventKind, Stepped};
-use session_machine::{Phase, Place};
+use session_machine::{Answer, EventKind, Phase, Place, Stepped};
 use std::alloc::Global;
 use store_core::Store;
 
@@ -39,7 +38,8 @@ fn win(session: &mut Session) -> Stepped
 fn lose(session: &mut Session, retries: u32) -> Stepped
     requires at { session.old.place.at < 2 ^ 63 }
     requires seen { session.old.place.seen + 1 < 2 ^ 32 }
-    ensures turned { session.old.place.lost + 1 < 2 ^ 32 → (current : ℕ) → lost_turn current session.old.place retries ≡ record { current = current; place = session.new.place; stepped = result } }
+    ensures turned { session.old.place.lost + 1 < 2 ^ 32 → (current : ℕ)
+        → lost_turn current session.old.place retries ≡ record { current = current; place = session.new.place; stepped = result } }
     ensures shape { IsSome session.old.pending → HasShape session.new }
     ensures names { session.new.names ≡ session.old.names }
 {
@@ -70,12 +70,14 @@ fn swap_prepared<S: Store>(
     requires prepared { IsSome session.now.prepared }
     requires missing { ForSome (S.files store.old) (λ old. (prepared : Version) → session.now.prepared ≡ Some prepared → map.get old prepared.name ≡ None) }
     ensures answer { IfOk result (λ answer. ForSome (S.files store.old) (λ old. answer ≡ SwapAnswer.Won)) }
-    ensures leaves { (prepared : Version) → session.now.prepared ≡ Some prepared → Leaves prepared.name prepared.bytes (S.files store.old) (S.files store.new) result }
+    ensures leaves { (prepared : Version) → session.now.prepared ≡ Some prepared
+        → Leaves prepared.name prepared.bytes (S.files store.old) (S.files store.new) result }
     ensures kept { KeepsFiles (S.files store.old) (S.files store.new) }
     ensures later { S.faults store.old ≤ S.faults store.new }
     ensures store { IsErrOf result SwapFault.Store → Rose (S.faults store.old) (S.faults store.new) × (0 < S.unsettled store.new) }
     ensures unknown { IsErrOf result SwapFault.Unknown → RoseTwice (S.faults store.old) (S.faults store.new) × (2 ≤ S.unsettled store.new) }
-    ensures settled { OnOk result ((S.unsettled store.new ≡ 0) ⊎ ((S.unsettled store.new ≡ S.unsettled store.old) × (S.faults store.new ≡ S.faults store.old))) }
+    ensures settled { OnOk result ((S.unsettled store.new ≡ 0) ⊎ ((S.unsettled store.new ≡ S.unsettled store.old)
+        × (S.faults store.new ≡ S.faults store.old))) }
 {
     match &session.prepared {
         Some(prepared) => {
@@ -107,16 +109,25 @@ pub(crate) fn swap_step<S: Store>(
     requires at { session.old.place.at < 2 ^ 63 }
     requires shape { HasShape session.old }
     requires missing { ForSome (S.files store.old) (λ old. (prepared : Version) → session.old.prepared ≡ Some prepared → map.get old prepared.name ≡ None) }
-    ensures step { IfOk result (λ stepped. ForSome (S.files store.old) (λ old. (table : Seq ℕ) (schema : TableSchema) (sources : Seq Source) (s : Statement) (current : ℕ) → branch_of s ≡ codes "main" → IsOpen table schema old current → HasPrepared table schema sources s old session.old → (new : Files) × (S.files store.new ≡ Some new) × IsStep table schema sources s old new current session.old.place session.new stepped)) }
-    ensures ends { IfErr result (λ fault. (prepared : Version) → session.old.prepared ≡ Some prepared → LeftBy prepared.name prepared.bytes (S.files store.old) (S.files store.new) fault) }
-    ensures swaps { (prepared : Version) → session.old.prepared ≡ Some prepared → (S.files store.new ≡ S.files store.old) ⊎ (S.files store.new ≡ option_map (swapped prepared.name prepared.bytes) (S.files store.old)) }
+    ensures step { IfOk result (λ stepped. ForSome (S.files store.old)
+        (λ old. (table : Seq ℕ) (schema : TableSchema) (sources : Seq Source) (s : Statement) (current : ℕ)
+        → branch_of s ≡ codes "main" → IsOpen table schema old current → HasPrepared table schema sources s old session.old
+        → (new : Files) × (S.files store.new ≡ Some new)
+        × IsStep table schema sources s old new current session.old.place session.new stepped)) }
+    ensures ends { IfErr result (λ fault. (prepared : Version) → session.old.prepared ≡ Some prepared
+        → LeftBy prepared.name prepared.bytes (S.files store.old) (S.files store.new) fault) }
+    ensures swaps { (prepared : Version) → session.old.prepared ≡ Some prepared
+        → (S.files store.new ≡ S.files store.old) ⊎ (S.files store.new ≡ option_map (swapped prepared.name prepared.bytes)
+        (S.files store.old)) }
     ensures shape { OnOk result (HasShape session.new) }
     ensures names { session.new.names ≡ session.old.names }
     ensures kept { KeepsFiles (S.files store.old) (S.files store.new) }
     ensures later { S.faults store.old ≤ S.faults store.new }
     ensures store { IsErrOf result RunFault.Store → Rose (S.faults store.old) (S.faults store.new) × (0 < S.unsettled store.new) }
-    ensures unknown { (number statement : ℕ) → IsErrOf result (RunFault.Unknown number statement) → RoseTwice (S.faults store.old) (S.faults store.new) × (2 ≤ S.unsettled store.new) }
-    ensures at_hand { (number statement : ℕ) → IsErrOf result (RunFault.Unknown number statement) → (number ≡ session.old.place.session) × (statement ≡ session.old.place.at) }
+    ensures unknown { (number statement : ℕ) → IsErrOf result (RunFault.Unknown number statement)
+        → RoseTwice (S.faults store.old) (S.faults store.new) × (2 ≤ S.unsettled store.new) }
+    ensures at_hand { (number statement : ℕ) → IsErrOf result (RunFault.Unknown number statement)
+        → (number ≡ session.old.place.session) × (statement ≡ session.old.place.at) }
     ensures quiet { OnOk result ((S.faults store.new ≡ S.faults store.old) ⊎ (S.unsettled store.new ≡ 0)) }
 {
     let retries = retries_of(session);

@@ -3,27 +3,27 @@ ghost use Rattle.std.specs.Prelude.{◌≡◌, ◌≤◌, ◌<◌, ◌+◌, ◌^
 ghost use Rattle.std.specs.Option.{ForSome};
 ghost use Rattle.plain_types.specs.Causes.{HasCause};
 ghost use Rattle.store_core.specs.Files.{Files, KeepsFiles};
-ghost use Rattle.file_names.specs.FileNames.{NoneFrom};
+ghost use Rattle.table_names.specs.FileNames.{NoneFrom};
 ghost use Rattle.sql_statements.specs.Tables.{branch_of};
 ghost use Rattle.session_machine.specs.Machine.{validate_turn};
-ghost use Rattle.session_work.specs.Open.{IsOpen};
+ghost use Rattle.session_steps.specs.Open.{IsOpen};
 ghost use Rattle.session_steps.specs.Faults.{CannotStep};
 ghost use Rattle.session_steps.specs.Choices.{is_unchanged, prepared_of, said_of};
 ghost use Rattle.session_steps.specs.Steps.{HasPending, HasShape, IsStep, LeavesRest};
 ghost use Rattle.sql_statements.specs.declared.statement.Source.{Source};
 ghost use Rattle.sql_statements.specs.declared.statement.Statement.{Statement};
 ghost use Rattle.row_values.specs.declared.schema.TableSchema.{TableSchema};
-ghost use Rattle.metadata_writer.specs.Fitting.{IsLong};
+ghost use Rattle.iceberg_schema.specs.Widths.{IsLong};
 ghost use Rattle.commit_builder.specs.NextVersion.{AreNames};
 ghost use Rattle.commit_builder.specs.declared.commit.Prepared.{Prepared as Version};
-ghost use Rattle.branch_validation.specs.declared.found.Found.TheVariants as found;
+ghost use Rattle.branch_commit.specs.declared.found.Found.TheVariants as found;
 
 use crate::fault::{RunFault, commit_fault};
 use crate::session::{NAMES_END, Session};
-use branch_validation::{Found, Validated, validate};
+use branch_commit::{Found, Validated, validate};
+use change_sets::Said;
 use plain_types::Text;
-use report_lines::{Answer, EventKind, Said, Stepped};
-use session_machine::{Phase, Place};
+use session_machine::{Answer, EventKind, Phase, Place, Stepped};
 use std::alloc::{AllocError, Global};
 use store_core::Store;
 use table_state::data_files_of;
@@ -31,7 +31,8 @@ use table_state::data_files_of;
 // What is found for the session.
 fn take(alloc: Global, session: &mut Session, validated: Validated) -> Result<Stepped, AllocError>
     requires { session.old.place.at < 2 ^ 63 }
-    ensures turned { IfOk result (λ stepped. validate_turn validated.version session.old.place (is_unchanged validated.found) (said_of validated.found) ≡ record { current = validated.version; place = session.new.place; stepped = stepped }) }
+    ensures turned { IfOk result (λ stepped. validate_turn validated.version session.old.place (is_unchanged validated.found)
+        (said_of validated.found) ≡ record { current = validated.version; place = session.new.place; stepped = stepped }) }
     ensures prepared { OnOk result (session.new.prepared ≡ prepared_of validated.found) }
     ensures pending { OnOk result ((prepared : Version) → validated.found ≡ found.Good prepared → session.new.pending ≡ session.old.pending) }
     ensures names { session.new.names ≡ session.old.names }
@@ -78,8 +79,14 @@ pub(crate) fn validate_step<S: Store>(
     requires named { AreNames session.old.names }
     requires free { ForSome (S.files store.old) (NoneFrom table.now session.old.names.run session.old.names.session session.old.names.next) }
     requires hour { IsLong now_ms }
-    ensures step { IfOk result (λ stepped. ForSome (S.files store.old) (λ old. (schema : TableSchema) (sources : Seq Source) (s : Statement) (current : ℕ) → branch_of s ≡ codes "main" → IsOpen table.now schema old current → HasPending table.now schema sources s old session.old → (new : Files) × (S.files store.new ≡ Some new) × IsStep table.now schema sources s old new current session.old.place session.new stepped)) }
-    ensures faulted { IfErr result (λ fault. ForSome (S.files store.old) (λ old. (schema : TableSchema) (sources : Seq Source) (s : Statement) → HasPending table.now schema sources s old session.old → CannotStep table.now schema s old fault)) }
+    ensures step { IfOk result (λ stepped. ForSome (S.files store.old)
+        (λ old. (schema : TableSchema) (sources : Seq Source) (s : Statement) (current : ℕ) → branch_of s ≡ codes "main"
+        → IsOpen table.now schema old current → HasPending table.now schema sources s old session.old → (new : Files)
+        × (S.files store.new ≡ Some new)
+        × IsStep table.now schema sources s old new current session.old.place session.new stepped)) }
+    ensures faulted { IfErr result (λ fault. ForSome (S.files store.old)
+        (λ old. (schema : TableSchema) (sources : Seq Source) (s : Statement)
+        → HasPending table.now schema sources s old session.old → CannotStep table.now schema s old fault)) }
     ensures shape { OnOk result (HasShape session.new) }
     ensures session { (session.new.names.run ≡ session.old.names.run) × (session.new.names.session ≡ session.old.names.session) }
     ensures named { AreNames session.new.names }

@@ -25,7 +25,8 @@ both f {a = a} {d = d} p q = ap (f a) q ∙ ap (λ x. f x d) p
 pub truth_roll : (row : List Value) (x : open_pred.Pred-F Pred) → truth (roll-Pred x) row ≡ truth_level row (map-Pred Pred Truth (λ p. truth p row) x)
 truth_roll row = fold-roll-Pred Truth (truth_level row)
 
-pub within_roll : (width : ℕ) (x : open_pred.Pred-F Pred) → pred_is_within width (roll-Pred x) ≡ pred_level_is_within width (map-Pred Pred Bool (pred_is_within width) x)
+pub within_roll : (width : ℕ) (x : open_pred.Pred-F Pred)
+    → pred_is_within width (roll-Pred x) ≡ pred_level_is_within width (map-Pred Pred Bool (pred_is_within width) x)
 within_roll width = fold-roll-Pred Bool (pred_level_is_within width)
 
 pub and_left : (a b : Bool) → (a && b) ≡ true → a ≡ true
@@ -53,7 +54,8 @@ operand_in_front row more (operand.Literal v) h = refl
 abbrev ReadsTheFront : List Value → List Value → Pred → Type 0
 ReadsTheFront row more p = pred_is_within (length row) p ≡ true → truth p (row ++ more) ≡ truth p row
 
-front_level : (row more : List Value) (y : open_pred.Pred-F (Proved (ReadsTheFront row more))) → ReadsTheFront row more (roll-Pred (map-Pred (Proved (ReadsTheFront row more)) Pred (λ e. e.0) y))
+front_level : (row more : List Value) (y : open_pred.Pred-F (Proved (ReadsTheFront row more)))
+    → ReadsTheFront row more (roll-Pred (map-Pred (Proved (ReadsTheFront row more)) Pred (λ e. e.0) y))
 front_level row more (open_pred.Const b) h = truth_roll (row ++ more) (open_pred.Const b) ∙ sym (truth_roll row (open_pred.Const b))
 front_level row more (open_pred.Compare op left right) h =
     let within = sym (within_roll (length row) (open_pred.Compare op left right)) ∙ h in

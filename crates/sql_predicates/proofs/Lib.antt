@@ -1,3 +1,4 @@
-pub mod FrontLaws
-pub mod KindLaws
+pub mod CallerLemmas
+mod FrontLaws
+mod KindLaws
 mod NormalFormLaws

@@ -82,7 +82,10 @@ normal_roll : (x : open_pred.Pred-F Pred) (negated : Bool) → normal_of (roll-P
 normal_roll x negated = ap (λ f. f negated) (fold-roll-Pred (Bool → Pred) normal_level x)
 
 -- the truth of a level's normal form
-truth_normal : (row : List Value) (x z : open_pred.Pred-F Pred) (negated : Bool) → normal_level (map-Pred Pred (Bool → Pred) normal_of x) negated ≡ roll-Pred z → truth_level row (map-Pred Pred Truth (λ p. truth p row) z) ≡ turned negated (truth_level row (map-Pred Pred Truth (λ p. truth p row) x)) → truth (normal_of (roll-Pred x) negated) row ≡ turned negated (truth (roll-Pred x) row)
+truth_normal : (row : List Value) (x z : open_pred.Pred-F Pred) (negated : Bool)
+    → normal_level (map-Pred Pred (Bool → Pred) normal_of x) negated ≡ roll-Pred z
+    → truth_level row (map-Pred Pred Truth (λ p. truth p row) z) ≡ turned negated (truth_level row (map-Pred Pred Truth (λ p. truth p row) x))
+    → truth (normal_of (roll-Pred x) negated) row ≡ turned negated (truth (roll-Pred x) row)
 truth_normal row x z negated is same =
     ap (λ p. truth p row) (normal_roll x negated ∙ is) ∙ truth_roll row z ∙ same ∙ ap (turned negated) (sym (truth_roll row x))
 
@@ -115,7 +118,9 @@ truth-normal_form row p = by_levels (IsAsTrue row) (same_level row) p false
 -- ---- no NOT, and the same positions
 
 -- what a fold says of a level's normal form
-fold_normal : (step : open_pred.Pred-F Bool → Bool) (x z : open_pred.Pred-F Pred) (negated : Bool) → normal_level (map-Pred Pred (Bool → Pred) normal_of x) negated ≡ roll-Pred z → fold-Pred Bool step (normal_of (roll-Pred x) negated) ≡ step (map-Pred Pred Bool (fold-Pred Bool step) z)
+fold_normal : (step : open_pred.Pred-F Bool → Bool) (x z : open_pred.Pred-F Pred) (negated : Bool)
+    → normal_level (map-Pred Pred (Bool → Pred) normal_of x) negated ≡ roll-Pred z
+    → fold-Pred Bool step (normal_of (roll-Pred x) negated) ≡ step (map-Pred Pred Bool (fold-Pred Bool step) z)
 fold_normal step x z negated is = ap (fold-Pred Bool step) (normal_roll x negated ∙ is) ∙ fold-roll-Pred Bool step z
 
 abbrev IsPositive : Pred → Type 0
@@ -150,10 +155,14 @@ abbrev ReadsTheSame : ℕ → Pred → Type 0
 ReadsTheSame width p = (negated : Bool) → pred_is_within width (normal_of p negated) ≡ pred_is_within width p
 
 -- a level and its normal form read the same
-within_normal : (width : ℕ) (x z : open_pred.Pred-F Pred) (negated : Bool) → normal_level (map-Pred Pred (Bool → Pred) normal_of x) negated ≡ roll-Pred z → pred_level_is_within width (map-Pred Pred Bool (pred_is_within width) z) ≡ pred_level_is_within width (map-Pred Pred Bool (pred_is_within width) x) → pred_is_within width (normal_of (roll-Pred x) negated) ≡ pred_is_within width (roll-Pred x)
+within_normal : (width : ℕ) (x z : open_pred.Pred-F Pred) (negated : Bool)
+    → normal_level (map-Pred Pred (Bool → Pred) normal_of x) negated ≡ roll-Pred z
+    → pred_level_is_within width (map-Pred Pred Bool (pred_is_within width) z) ≡ pred_level_is_within width (map-Pred Pred Bool (pred_is_within width) x)
+    → pred_is_within width (normal_of (roll-Pred x) negated) ≡ pred_is_within width (roll-Pred x)
 within_normal width x z negated is same = fold_normal (pred_level_is_within width) x z negated is ∙ same ∙ sym (within_roll width x)
 
-within_level : (width : ℕ) (y : open_pred.Pred-F (Proved (ReadsTheSame width))) → ReadsTheSame width (roll-Pred (map-Pred (Proved (ReadsTheSame width)) Pred (λ e. e.0) y))
+within_level : (width : ℕ) (y : open_pred.Pred-F (Proved (ReadsTheSame width)))
+    → ReadsTheSame width (roll-Pred (map-Pred (Proved (ReadsTheSame width)) Pred (λ e. e.0) y))
 within_level width (open_pred.Const b) true = within_normal width (open_pred.Const b) (open_pred.Const (not b)) true refl refl
 within_level width (open_pred.Const b) false = within_normal width (open_pred.Const b) (open_pred.Const b) false refl refl
 within_level width (open_pred.Compare o left right) true =

@@ -4,7 +4,8 @@ ghost use Rattle.sql_predicates.specs.Exprs.{outcome, combined, decimals_combine
 ghost use Rattle.row_values.specs.Rows.{has_digits};
 ghost use Rattle.std.specs.Prelude.{IsTrue, ◌↔◌};
 
-use crate::{ExprFault, Value};
+use crate::ExprFault;
+use row_values::Value;
 
 /// What arithmetic does with two numbers.
 #[derive(Clone, Copy, Debug, PartialEq, Eq)]

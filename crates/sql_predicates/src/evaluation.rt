@@ -4,7 +4,8 @@ ghost use Rattle.row_values.specs.Rows.{is_null};
 ghost use Rattle.sql_predicates.specs.Truth.{truth, compared, operand_value, value_at};
 ghost use Rattle.sql_predicates.specs.Positions.{pred_is_within, operand_is_within};
 
-use crate::{Op, Operand, Pred, Row, Truth, Value};
+use crate::{Op, Operand, Pred, Truth};
+use row_values::{Row, Value};
 use std::cmp::Ordering;
 
 /// What the row says of the predicate.

@@ -4,7 +4,8 @@ ghost use Rattle.sql_predicates.specs.Positions.{expr_is_within};
 
 use crate::arithmetic::{Arithmetic, widen};
 use crate::evaluation::value_at;
-use crate::{Expr, ExprFault, Row, Value};
+use crate::{Expr, ExprFault};
+use row_values::{Row, Value};
 use std::alloc::Global;
 
 /// The value of the expression on the row.

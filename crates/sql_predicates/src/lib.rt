@@ -1,5 +1,7 @@
 //! Predicates and expressions of SQL over one row: SQL's three-valued logic, arithmetic that answers
 //! an overflow, and a form of a predicate without NOT that is as true on every row.
+//!
+//! An expression that fits a kind has a value of the kind, NULL or an overflow on every row of the columns.
 #![tactic(auto)]
 
 mod arithmetic;

@@ -7,7 +7,8 @@ ghost use Rattle.row_values.specs.declared.value.Value.{Value};
 ghost use Rattle.sql_predicates.specs.NormalForm as spec;
 ghost use Rattle.sql_predicates.specs.NormalForm.{normal_form, has_no_not};
 
-use crate::{Boxed, Op, Operand, Pred};
+use crate::{Op, Operand, Pred};
+use plain_types::Boxed;
 use std::alloc::{AllocError, Global};
 
 /// An equal predicate without NOT.

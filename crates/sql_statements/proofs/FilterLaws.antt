@@ -11,7 +11,7 @@ use Rattle.sql_predicates.specs.declared.truth.Truth.{Truth}
 use Rattle.sql_predicates.specs.declared.truth.Truth.TheVariants.{True, False, Unknown}
 use Rattle.sql_predicates.specs.Truth.{truth, and_truth}
 use Rattle.sql_predicates.specs.Positions.{pred_is_within}
-use Rattle.sql_predicates.proofs.FrontLaws.{Proved, by_levels, both, truth_roll, truth_in_front}
+use Rattle.sql_predicates.proofs.CallerLemmas.{Proved, by_levels, both, truth_roll, truth_in_front}
 use Rattle.sql_statements.specs.declared.statement.Statement.{Statement}
 use Rattle.sql_statements.specs.declared.statement.Statement.TheVariants as statement
 use Rattle.sql_statements.specs.declared.statement.When.TheVariants.{NotMatchedBySource}
@@ -54,7 +54,8 @@ conjoined_holds row None b p q = q
 conjoined_holds row (Some a) None p q = p
 conjoined_holds row (Some a) (Some b) p q = ap is_true (truth_roll row (open_pred.And a b)) ∙ both_is_true (truth a row) (truth b row) p q
 
-leaf_holds : (row more : List Value) (p : Pred) (within : Bool) → pred_is_within (length row) p ≡ within → holds_on p (row ++ more) ≡ true → PartHolds row (cond within (Some p) None)
+leaf_holds : (row more : List Value) (p : Pred) (within : Bool) → pred_is_within (length row) p ≡ within
+    → holds_on p (row ++ more) ≡ true → PartHolds row (cond within (Some p) None)
 leaf_holds row more p true is h = ap is_true (sym (truth_in_front row more p is)) ∙ h
 leaf_holds row more p false is h = tt
 
@@ -68,7 +69,8 @@ leaf_splits row more p is = record {
 split_roll : (width : ℕ) (x : open_pred.Pred-F Pred) → split_of width (roll-Pred x) ≡ split_level width (map-Pred Pred Split (split_of width) x)
 split_roll width = fold-roll-Pred Split (split_level width)
 
-whole_level : (width : ℕ) (y : open_pred.Pred-F (Proved (λ p. (split_of width p).whole ≡ p))) → (split_of width (roll-Pred (map-Pred (Proved (λ p. (split_of width p).whole ≡ p)) Pred (λ e. e.0) y))).whole ≡ roll-Pred (map-Pred (Proved (λ p. (split_of width p).whole ≡ p)) Pred (λ e. e.0) y)
+whole_level : (width : ℕ) (y : open_pred.Pred-F (Proved (λ p. (split_of width p).whole ≡ p)))
+    → (split_of width (roll-Pred (map-Pred (Proved (λ p. (split_of width p).whole ≡ p)) Pred (λ e. e.0) y))).whole ≡ roll-Pred (map-Pred (Proved (λ p. (split_of width p).whole ≡ p)) Pred (λ e. e.0) y)
 whole_level width (open_pred.Const b) = ap (λ (s : Split). s.whole) (split_roll width (open_pred.Const b))
 whole_level width (open_pred.Compare op left right) = ap (λ (s : Split). s.whole) (split_roll width (open_pred.Compare op left right))
 whole_level width (open_pred.IsNull at) = ap (λ (s : Split). s.whole) (split_roll width (open_pred.IsNull at))
@@ -102,7 +104,8 @@ leaf_level width (open_pred.And a b) other = absurd (other a.0 b.0 refl)
 pub part_of_leaf : (width : ℕ) (p : Pred) → IsNoAnd p → (split_of width p).part ≡ (leaf width p).part
 part_of_leaf width = by_levels (IsLeaf width) (leaf_level width)
 
-splits_level : (row more : List Value) (y : open_pred.Pred-F (Proved (Splits row more))) → Splits row more (roll-Pred (map-Pred (Proved (Splits row more)) Pred (λ e. e.0) y))
+splits_level : (row more : List Value) (y : open_pred.Pred-F (Proved (Splits row more)))
+    → Splits row more (roll-Pred (map-Pred (Proved (Splits row more)) Pred (λ e. e.0) y))
 splits_level row more (open_pred.Const b) = leaf_splits row more _ (split_roll (length row) (open_pred.Const b))
 splits_level row more (open_pred.Compare op left right) = leaf_splits row more _ (split_roll (length row) (open_pred.Compare op left right))
 splits_level row more (open_pred.IsNull at) = leaf_splits row more _ (split_roll (length row) (open_pred.IsNull at))
@@ -132,7 +135,8 @@ target_part_holds row more p h = part_or_always row _ ((splits row more p).part 
 
 -- ---- rows that the filter leaves out
 
-no_match : (on : Pred) (row more : List Value) (found : Bool) → holds_on on (row ++ more) ≡ found → holds_on (target_part (length row) on) row ≡ false → cond found ((row ++ more) ∷ []) [] ≡ []
+no_match : (on : Pred) (row more : List Value) (found : Bool) → holds_on on (row ++ more) ≡ found
+    → holds_on (target_part (length row) on) row ≡ false → cond found ((row ++ more) ∷ []) [] ≡ []
 no_match on row more true is out = absurd (false≢true (sym out ∙ target_part_holds row more on is))
 no_match on row more false is out = refl
 
@@ -162,7 +166,8 @@ none_chosen (c ∷ clauses) sight h =
     ap (λ b. cond b (Some c.action) (chosen NotMatchedBySource clauses sight)) (applies_not c sight (or_left (is_by_source c) _ h))
     ∙ none_chosen clauses sight (or_right (is_by_source c) _ h)
 
-merge_keeps : (m : Merge) (source : Source) (row : List Value) (by_source : Bool) → list_any is_by_source m.clauses ≡ by_source → holds_on (cond by_source always (target_part (length row) m.on)) row ≡ false → merge_effect m source row ≡ Keep
+merge_keeps : (m : Merge) (source : Source) (row : List Value) (by_source : Bool) → list_any is_by_source m.clauses ≡ by_source
+    → holds_on (cond by_source always (target_part (length row) m.on)) row ≡ false → merge_effect m source row ≡ Keep
 merge_keeps m source row true is out = absurd (false≢true (sym out ∙ always_holds row))
 merge_keeps m source row false is out =
     let sight = row ++ nulls (length source.columns) in

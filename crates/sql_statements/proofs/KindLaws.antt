@@ -12,10 +12,9 @@ use Rattle.row_values.specs.declared.schema.Column.{Column}
 use Rattle.row_values.specs.Rows.{has_digits, is_null, is_value, is_held, is_row, AreRows}
 use Rattle.sql_predicates.specs.declared.expr.Expr.{Expr}
 use Rattle.sql_predicates.specs.declared.pred.Pred.{Pred}
-use Rattle.sql_predicates.specs.Exprs.{Answer, value_of}
+use Rattle.sql_predicates.specs.Exprs.{Evaluated, value_of}
 use Rattle.sql_predicates.specs.Kinds.{is_value_or_null, has_kinds}
-use Rattle.sql_predicates.proofs.FrontLaws.{and_left, and_right}
-use Rattle.sql_predicates.proofs.KindLaws.{and_both, or_right, OfKind, of_kind, row_has_kinds, kinds_joined, nulls_have_kinds}
+use Rattle.sql_predicates.proofs.CallerLemmas.{and_left, and_right, and_both, or_right, OfKind, of_kind, row_has_kinds, kinds_joined, nulls_have_kinds}
 use Rattle.sql_statements.specs.declared.statement.Set.{Set}
 use Rattle.sql_statements.specs.declared.statement.When.{When}
 use Rattle.sql_statements.specs.declared.statement.When.TheVariants.{Matched, NotMatched, NotMatchedBySource}
@@ -67,7 +66,7 @@ taken (kind.Decimal precision scale) value.Null h = refl
 taken (kind.Decimal precision scale) _ h = absurd (false≢true h)
 taken k v h = or_right (is_too_wide k v) (is_value_or_null k v) h
 
-answer_taken : (k : Kind) (answer : Answer) → OfKind (widest k) answer → may_take k (computed answer) ≡ true
+answer_taken : (k : Kind) (answer : Evaluated) → OfKind (widest k) answer → may_take k (computed answer) ≡ true
 answer_taken k (Ok v) h = taken k v h
 answer_taken k (Err fault) h = refl
 
@@ -82,16 +81,21 @@ module _ (sight : List Column) (seen : List Value) (is : has_kinds sight seen �
   tuple_made [] (e ∷ exprs) fit = absurd (false≢true fit)
   tuple_made (column ∷ columns) [] fit = absurd (false≢true fit)
 
-  assigned_taken : (all : List Column) (column : Column) (at : ℕ) (old : Value) → slice_get all at ≡ Some column → is_value_or_null column.kind old ≡ true → (sets : List Set) → list_all (set_fits sight all) sets ≡ true → may_take column.kind (assigned sets seen at old) ≡ true
+  assigned_taken : (all : List Column) (column : Column) (at : ℕ) (old : Value) → slice_get all at ≡ Some column
+      → is_value_or_null column.kind old ≡ true → (sets : List Set) → list_all (set_fits sight all) sets ≡ true
+      → may_take column.kind (assigned sets seen at old) ≡ true
   assigned_taken all column at old there may [] fit = or_right (is_too_wide column.kind old) (is_value_or_null column.kind old) may
   assigned_taken all column at old there may (s ∷ sets) fit = by (s.column == at) refl (assigned_taken all column at old there may sets (and_right (set_fits sight all s) _ fit))
     where
-      by : (here : Bool) → (s.column == at) ≡ here → may_take column.kind (assigned sets seen at old) ≡ true → may_take column.kind (cond here (new_value seen s.expr) (assigned sets seen at old)) ≡ true
+      by : (here : Bool) → (s.column == at) ≡ here → may_take column.kind (assigned sets seen at old) ≡ true
+          → may_take column.kind (cond here (new_value seen s.expr) (assigned sets seen at old)) ≡ true
       by true same rest =
           value_taken column s.expr (subst (λ found. target_fits sight s.expr found ≡ true) (ap (slice_get all) (eqb-true s.column at same) ∙ there) (and_left (set_fits sight all s) _ fit))
       by false same rest = rest
 
-  updated_made : (all : List Column) (sets : List Set) → list_all (set_fits sight all) sets ≡ true → (at : ℕ) (columns : List Column) (olds : List Value) → ((i : ℕ) → slice_get all (i + at) ≡ slice_get columns i) → has_kinds columns olds ≡ true → is_made columns (updated_from at sets seen olds) ≡ true
+  updated_made : (all : List Column) (sets : List Set) → list_all (set_fits sight all) sets ≡ true
+      → (at : ℕ) (columns : List Column) (olds : List Value) → ((i : ℕ) → slice_get all (i + at) ≡ slice_get columns i)
+      → has_kinds columns olds ≡ true → is_made columns (updated_from at sets seen olds) ≡ true
   updated_made all sets fit at [] [] place have = refl
   updated_made all sets fit at (column ∷ columns) (old ∷ olds) place have =
       and_both (may_take column.kind (assigned sets seen at old)) (is_made columns (updated_from (at + 1) sets seen olds))
@@ -102,7 +106,8 @@ module _ (sight : List Column) (seen : List Value) (is : has_kinds sight seen �
 
 -- ---- a new row that is not refused is a row of the columns
 
-not_too_wide : (column : Column) (v : Option Value) → may_take column.kind v ≡ true → overflows_at column v ≡ false → (w : Value) × (v ≡ Some w) × (is_value_or_null column.kind w ≡ true)
+not_too_wide : (column : Column) (v : Option Value) → may_take column.kind v ≡ true → overflows_at column v ≡ false → (w : Value)
+    × (v ≡ Some w) × (is_value_or_null column.kind w ≡ true)
 not_too_wide column None may fine = absurd (false≢true (sym fine))
 not_too_wide column (Some v) may fine = (v, refl, subst (λ wide. (wide || is_value_or_null column.kind v) ≡ true) fine may)
 
@@ -120,7 +125,9 @@ not_true : (b : Bool) → not b ≡ true → b ≡ false
 not_true true h = absurd (false≢true h)
 not_true false h = refl
 
-made_is_row : (whole : NewRow) (at : ℕ) (columns : List Column) (made : NewRow) → ((i : ℕ) → slice_get whole (i + at) ≡ slice_get made i) → is_made columns made ≡ true → overflows columns made ≡ false → lacks_null at columns whole ≡ true → is_row columns (row_of made) ≡ true
+made_is_row : (whole : NewRow) (at : ℕ) (columns : List Column) (made : NewRow)
+    → ((i : ℕ) → slice_get whole (i + at) ≡ slice_get made i) → is_made columns made ≡ true → overflows columns made ≡ false
+    → lacks_null at columns whole ≡ true → is_row columns (row_of made) ≡ true
 made_is_row whole at [] [] place may fine full = refl
 made_is_row whole at (column ∷ columns) (v ∷ vs) place may fine full =
     and_both (is_held column (unwrap_or v value.Null)) (is_row columns (row_of vs))
@@ -143,18 +150,26 @@ no_null : (at : Option ℕ) → null_refusal at ≡ None → at ≡ None
 no_null None h = refl
 no_null (Some at) h = absurd cc
 
-not_refused : (columns : List Column) (made : List NewRow) → value_refusal columns made ≡ None → (list_any (overflows columns) made ≡ false) × (first_null columns made ≡ None)
+not_refused : (columns : List Column) (made : List NewRow) → value_refusal columns made ≡ None
+    → (list_any (overflows columns) made ≡ false) × (first_null columns made ≡ None)
 not_refused columns made h = by (list_any (overflows columns) made) refl h
   where
-    by : (found : Bool) → list_any (overflows columns) made ≡ found → cond found (Some refused.Overflow) (null_refusal (first_null columns made)) ≡ None → (list_any (overflows columns) made ≡ false) × (first_null columns made ≡ None)
+    by : (found : Bool) → list_any (overflows columns) made ≡ found
+        → cond found (Some refused.Overflow) (null_refusal (first_null columns made)) ≡ None
+        → (list_any (overflows columns) made ≡ false) × (first_null columns made ≡ None)
     by true is none = absurd cc
     by false is none = (is, no_null (first_null columns made) none)
 
-split_null : (at : ℕ) (columns : List Column) (row : NewRow) (rows : List NewRow) → first_null_from at columns (row ∷ rows) ≡ None → (lacks_null at columns row ≡ true) × (first_null_from at columns rows ≡ None)
+split_null : (at : ℕ) (columns : List Column) (row : NewRow) (rows : List NewRow) → first_null_from at columns (row ∷ rows) ≡ None
+    → (lacks_null at columns row ≡ true) × (first_null_from at columns rows ≡ None)
 split_null at [] row rows h = (refl, refl)
 split_null at (column ∷ columns) row rows h = by column.required (is_null_at at row) (list_any (is_null_at at) rows) (split_null (at + 1) columns row rows) h
   where
-    by : (required here later : Bool) → (first_null_from (at + 1) columns (row ∷ rows) ≡ None → (lacks_null (at + 1) columns row ≡ true) × (first_null_from (at + 1) columns rows ≡ None)) → cond (required && (here || later)) (Some at) (first_null_from (at + 1) columns (row ∷ rows)) ≡ None → ((not (required && here) && lacks_null (at + 1) columns row) ≡ true) × (cond (required && later) (Some at) (first_null_from (at + 1) columns rows) ≡ None)
+    by : (required here later : Bool) → (first_null_from (at + 1) columns (row ∷ rows) ≡ None
+        → (lacks_null (at + 1) columns row ≡ true) × (first_null_from (at + 1) columns rows ≡ None))
+        → cond (required && (here || later)) (Some at) (first_null_from (at + 1) columns (row ∷ rows)) ≡ None
+        → ((not (required && here) && lacks_null (at + 1) columns row) ≡ true)
+        × (cond (required && later) (Some at) (first_null_from (at + 1) columns rows) ≡ None)
     by true true later rest none = absurd cc
     by true false true rest none = absurd cc
     by true false false rest none = rest none
@@ -164,7 +179,8 @@ split_null at (column ∷ columns) row rows h = by column.required (is_null_at a
 abbrev is_good : List Column → NewRow → Bool
 is_good columns made = is_row columns (row_of made)
 
-all_good : (columns : List Column) (made : List NewRow) → list_all (is_made columns) made ≡ true → list_any (overflows columns) made ≡ false → first_null columns made ≡ None → list_all (is_good columns) made ≡ true
+all_good : (columns : List Column) (made : List NewRow) → list_all (is_made columns) made ≡ true
+    → list_any (overflows columns) made ≡ false → first_null columns made ≡ None → list_all (is_good columns) made ≡ true
 all_good columns [] may fine full = refl
 all_good columns (row ∷ rows) may fine full =
     let s = split_null 0 columns row rows full in
@@ -178,19 +194,23 @@ abbrev choice_fits : List Column → List Column → Option Action → Bool
 choice_fits sight columns None = true
 choice_fits sight columns (Some a) = action_fits sight columns a
 
-chosen_fits : (sight columns : List Column) (when : When) (seen : List Value) (clauses : List Clause) → list_all (clause_fits sight columns) clauses ≡ true → choice_fits sight columns (chosen when clauses seen) ≡ true
+chosen_fits : (sight columns : List Column) (when : When) (seen : List Value) (clauses : List Clause)
+    → list_all (clause_fits sight columns) clauses ≡ true → choice_fits sight columns (chosen when clauses seen) ≡ true
 chosen_fits sight columns when seen [] fit = refl
 chosen_fits sight columns when seen (c ∷ clauses) fit = by (applies when c seen) (chosen_fits sight columns when seen clauses (and_right (clause_fits sight columns c) _ fit))
   where
-    by : (here : Bool) → choice_fits sight columns (chosen when clauses seen) ≡ true → choice_fits sight columns (cond here (Some c.action) (chosen when clauses seen)) ≡ true
+    by : (here : Bool) → choice_fits sight columns (chosen when clauses seen) ≡ true
+        → choice_fits sight columns (cond here (Some c.action) (chosen when clauses seen)) ≡ true
     by true rest = and_left _ _ fit
     by false rest = rest
 
 module _ (sight : List Column) (seen : List Value) (is : has_kinds sight seen ≡ true) (columns : List Column) where
-  updated_is_made : (sets : List Set) (old : List Value) → list_all (set_fits sight columns) sets ≡ true → has_kinds columns old ≡ true → is_made columns (updated sets seen old) ≡ true
+  updated_is_made : (sets : List Set) (old : List Value) → list_all (set_fits sight columns) sets ≡ true
+      → has_kinds columns old ≡ true → is_made columns (updated sets seen old) ≡ true
   updated_is_made sets old fit have = updated_made sight seen is columns sets fit 0 columns old (λ i. ap (slice_get columns) (omega arith)) have
 
-  acted_made : (target : List Value) (choice : Option Action) → has_kinds columns target ≡ true → choice_fits sight columns choice ≡ true → list_all (is_made columns) (replacement (acted target seen choice)) ≡ true
+  acted_made : (target : List Value) (choice : Option Action) → has_kinds columns target ≡ true
+      → choice_fits sight columns choice ≡ true → list_all (is_made columns) (replacement (acted target seen choice)) ≡ true
   acted_made target None have fit = refl
   acted_made target (Some (action.Update sets)) have fit = and_both _ true (updated_is_made sets target fit have) refl
   acted_made target (Some action.Delete) have fit = refl
@@ -202,7 +222,8 @@ module _ (sight : List Column) (seen : List Value) (is : has_kinds sight seen �
   inserted_made (Some action.Delete) fit = refl
   inserted_made (Some (action.Insert exprs)) fit = and_both _ true (tuple_made sight seen is columns exprs fit) refl
 
-tuples_made : (columns : List Column) (tuples : List (List Expr)) → list_all (exprs_fit [] columns) tuples ≡ true → list_all (is_made columns) (map (new_row []) tuples) ≡ true
+tuples_made : (columns : List Column) (tuples : List (List Expr)) → list_all (exprs_fit [] columns) tuples ≡ true
+    → list_all (is_made columns) (map (new_row []) tuples) ≡ true
 tuples_made columns [] fit = refl
 tuples_made columns (exprs ∷ tuples) fit =
     and_both _ _ (tuple_made [] [] refl columns exprs (and_left _ _ fit)) (tuples_made columns tuples (and_right (exprs_fit [] columns exprs) _ fit))
@@ -218,34 +239,45 @@ module _ (columns more : List Column) (target : List Value) (have : has_kinds co
       by true = and_both (has_kinds (columns ++ more) (target ++ row)) true (kinds_joined columns more target row have (row_has_kinds more row is)) refl
       by false = refl
 
-  matches_have_kinds : (on : Pred) (rows : List (List Value)) → list_all (is_row more) rows ≡ true → list_all (has_kinds (columns ++ more)) (matches on rows target) ≡ true
+  matches_have_kinds : (on : Pred) (rows : List (List Value)) → list_all (is_row more) rows ≡ true
+      → list_all (has_kinds (columns ++ more)) (matches on rows target) ≡ true
   matches_have_kinds on [] are = refl
   matches_have_kinds on (row ∷ rows) are =
       list_all-append (has_kinds (columns ++ more)) (match_of on target row) (matches on rows target)
       ∙ and_both _ _ (match_has_kinds on row (and_left _ _ are)) (matches_have_kinds on rows (and_right (is_row more row) _ are))
 
-  effect_by_made : (clauses : List Clause) (padding : List Value) (sights : List (List Value)) → list_all (clause_fits (columns ++ more) columns) clauses ≡ true → has_kinds more padding ≡ true → list_all (has_kinds (columns ++ more)) sights ≡ true → list_all (is_made columns) (replacement (effect_by clauses target padding sights)) ≡ true
+  effect_by_made : (clauses : List Clause) (padding : List Value) (sights : List (List Value))
+      → list_all (clause_fits (columns ++ more) columns) clauses ≡ true → has_kinds more padding ≡ true
+      → list_all (has_kinds (columns ++ more)) sights ≡ true
+      → list_all (is_made columns) (replacement (effect_by clauses target padding sights)) ≡ true
   effect_by_made clauses padding (sight ∷ sights) fit pad are =
       acted_made (columns ++ more) sight (and_left _ _ are) columns target (chosen Matched clauses sight) have (chosen_fits (columns ++ more) columns Matched sight clauses fit)
   effect_by_made clauses padding [] fit pad are =
       acted_made (columns ++ more) (target ++ padding) (kinds_joined columns more target padding have pad) columns target (chosen NotMatchedBySource clauses (target ++ padding)) have (chosen_fits (columns ++ more) columns NotMatchedBySource (target ++ padding) clauses fit)
 
-merge_effect_made : (columns : List Column) (source : Source) (m : Merge) (row : List Value) → source_has_rows source ≡ true → merge_fits columns source m ≡ true → is_row columns row ≡ true → list_all (is_made columns) (replacement (merge_effect m source row)) ≡ true
+merge_effect_made : (columns : List Column) (source : Source) (m : Merge) (row : List Value) → source_has_rows source ≡ true
+    → merge_fits columns source m ≡ true → is_row columns row ≡ true
+    → list_all (is_made columns) (replacement (merge_effect m source row)) ≡ true
 merge_effect_made columns source m row are fit is =
     let have = row_has_kinds columns row is in
     effect_by_made columns source.columns row have m.clauses (nulls (length source.columns)) (matches m.on source.rows row) fit (nulls_have_kinds source.columns) (matches_have_kinds columns source.columns row have m.on source.rows are)
 
-insertion_made : (columns : List Column) (source : Source) (m : Merge) (targets : List (List Value)) (row : List Value) → merge_fits columns source m ≡ true → is_row source.columns row ≡ true → list_all (is_made columns) (insertion m.on m.clauses targets (nulls (length columns)) row) ≡ true
+insertion_made : (columns : List Column) (source : Source) (m : Merge) (targets : List (List Value)) (row : List Value)
+    → merge_fits columns source m ≡ true → is_row source.columns row ≡ true
+    → list_all (is_made columns) (insertion m.on m.clauses targets (nulls (length columns)) row) ≡ true
 unfolding insertion
 insertion_made columns source m targets row fit is = by (is_matched m.on targets row)
   where
-    by : (found : Bool) → list_all (is_made columns) (cond found [] (inserted_by (nulls (length columns) ++ row) (chosen NotMatched m.clauses (nulls (length columns) ++ row)))) ≡ true
+    by : (found : Bool) → list_all (is_made columns) (cond found [] (inserted_by (nulls (length columns) ++ row)
+        (chosen NotMatched m.clauses (nulls (length columns) ++ row)))) ≡ true
     by true = refl
     by false =
         inserted_made (columns ++ source.columns) (nulls (length columns) ++ row) (kinds_joined columns source.columns (nulls (length columns)) row (nulls_have_kinds columns) (row_has_kinds source.columns row is)) columns
         (chosen NotMatched m.clauses (nulls (length columns) ++ row)) (chosen_fits (columns ++ source.columns) columns NotMatched (nulls (length columns) ++ row) m.clauses fit)
 
-insertions_made_of : (columns : List Column) (source : Source) (m : Merge) (targets rows : List (List Value)) → merge_fits columns source m ≡ true → list_all (is_row source.columns) rows ≡ true → list_all (is_made columns) (flat_map (insertion m.on m.clauses targets (nulls (length columns))) rows) ≡ true
+insertions_made_of : (columns : List Column) (source : Source) (m : Merge) (targets rows : List (List Value))
+    → merge_fits columns source m ≡ true → list_all (is_row source.columns) rows ≡ true
+    → list_all (is_made columns) (flat_map (insertion m.on m.clauses targets (nulls (length columns))) rows) ≡ true
 insertions_made_of columns source m targets [] fit are = refl
 insertions_made_of columns source m targets (row ∷ rows) fit are =
     list_all-append (is_made columns) (insertion m.on m.clauses targets (nulls (length columns)) row) (flat_map (insertion m.on m.clauses targets (nulls (length columns))) rows)
@@ -263,12 +295,14 @@ removed_or_kept : (columns : List Column) (found : Bool) → list_all (is_made c
 removed_or_kept columns true = refl
 removed_or_kept columns false = refl
 
-replaced_or_kept : (columns : List Column) (found : Bool) (new : NewRow) → is_made columns new ≡ true → list_all (is_made columns) (replacement (cond found (Replace new) Keep)) ≡ true
+replaced_or_kept : (columns : List Column) (found : Bool) (new : NewRow) → is_made columns new ≡ true
+    → list_all (is_made columns) (replacement (cond found (Replace new) Keep)) ≡ true
 replaced_or_kept columns true new made = and_both _ true made refl
 replaced_or_kept columns false new made = refl
 
 module _ (columns : List Column) (sources : List Source) (good : list_all source_has_rows sources ≡ true) where
-  replacements_made : (s : Statement) (row : List Value) → statement_fits columns sources s ≡ true → is_row columns row ≡ true → list_all (is_made columns) (replacements sources s row) ≡ true
+  replacements_made : (s : Statement) (row : List Value) → statement_fits columns sources s ≡ true → is_row columns row ≡ true
+      → list_all (is_made columns) (replacements sources s row) ≡ true
   unfolding replacements effect
   replacements_made (statement.Insert branch tuples) row fit is = refl
   replacements_made (statement.Delete branch filter) row fit is = removed_or_kept columns (holds_on filter row)
@@ -280,13 +314,15 @@ module _ (columns : List Column) (sources : List Source) (good : list_all source
   replacements_made (statement.DropBranch branch) row fit is = refl
   replacements_made (statement.Select branch filter) row fit is = refl
 
-  all_replacements_made : (s : Statement) (rows : List (List Value)) → statement_fits columns sources s ≡ true → list_all (is_row columns) rows ≡ true → list_all (is_made columns) (flat_map (replacements sources s) rows) ≡ true
+  all_replacements_made : (s : Statement) (rows : List (List Value)) → statement_fits columns sources s ≡ true
+      → list_all (is_row columns) rows ≡ true → list_all (is_made columns) (flat_map (replacements sources s) rows) ≡ true
   all_replacements_made s [] fit are = refl
   all_replacements_made s (row ∷ rows) fit are =
       list_all-append (is_made columns) (replacements sources s row) (flat_map (replacements sources s) rows)
       ∙ and_both _ _ (replacements_made s row fit (and_left _ _ are)) (all_replacements_made s rows fit (and_right (is_row columns row) _ are))
 
-  insertions_made : (s : Statement) (rows : List (List Value)) → statement_fits columns sources s ≡ true → list_all (is_made columns) (insertions (length columns) sources s rows) ≡ true
+  insertions_made : (s : Statement) (rows : List (List Value)) → statement_fits columns sources s ≡ true
+      → list_all (is_made columns) (insertions (length columns) sources s rows) ≡ true
   insertions_made (statement.Insert branch tuples) rows fit = tuples_made columns tuples fit
   insertions_made (statement.Delete branch filter) rows fit = refl
   insertions_made (statement.Update branch sets filter) rows fit = refl
@@ -296,16 +332,20 @@ module _ (columns : List Column) (sources : List Source) (good : list_all source
   insertions_made (statement.DropBranch branch) rows fit = refl
   insertions_made (statement.Select branch filter) rows fit = refl
 
-  remaining_good : (e : Effect) (row : List Value) → is_row columns row ≡ true → list_all (is_good columns) (replacement e) ≡ true → list_all (is_row columns) (remaining e row) ≡ true
+  remaining_good : (e : Effect) (row : List Value) → is_row columns row ≡ true → list_all (is_good columns) (replacement e) ≡ true
+      → list_all (is_row columns) (remaining e row) ≡ true
   remaining_good Keep row is good_too = and_both (is_row columns row) true is refl
   remaining_good Remove row is good_too = refl
   remaining_good (Replace new) row is good_too = good_too
 
-  remains_good : (s : Statement) (row : List Value) → is_row columns row ≡ true → list_all (is_good columns) (replacements sources s row) ≡ true → list_all (is_row columns) (remains sources s row) ≡ true
+  remains_good : (s : Statement) (row : List Value) → is_row columns row ≡ true
+      → list_all (is_good columns) (replacements sources s row) ≡ true → list_all (is_row columns) (remains sources s row) ≡ true
   unfolding replacements remains
   remains_good s row is good_too = remaining_good (effect sources s row) row is good_too
 
-  all_remain_good : (s : Statement) (rows : List (List Value)) → list_all (is_row columns) rows ≡ true → list_all (is_good columns) (flat_map (replacements sources s) rows) ≡ true → list_all (is_row columns) (flat_map (remains sources s) rows) ≡ true
+  all_remain_good : (s : Statement) (rows : List (List Value)) → list_all (is_row columns) rows ≡ true
+      → list_all (is_good columns) (flat_map (replacements sources s) rows) ≡ true
+      → list_all (is_row columns) (flat_map (remains sources s) rows) ≡ true
   all_remain_good s [] are good_too = refl
   all_remain_good s (row ∷ rows) are good_too =
       let both = sym (list_all-append (is_good columns) (replacements sources s row) (flat_map (replacements sources s) rows)) ∙ good_too in
@@ -316,14 +356,19 @@ module _ (columns : List Column) (sources : List Source) (good : list_all source
   rows_of_good [] good_too = refl
   rows_of_good (row ∷ rows) good_too = and_both (is_row columns (row_of row)) _ (and_left _ _ good_too) (rows_of_good rows (and_right (is_good columns row) _ good_too))
 
-  value_refused : (s : Statement) (rows : List (List Value)) → refusal columns sources s rows ≡ None → value_refusal columns (new_rows (length columns) sources s rows) ≡ None
+  value_refused : (s : Statement) (rows : List (List Value)) → refusal columns sources s rows ≡ None
+      → value_refusal columns (new_rows (length columns) sources s rows) ≡ None
   value_refused s rows h = by (is_ambiguous sources s rows) h
     where
-      by : (two : Bool) → cond two (Some refused.Cardinality) (value_refusal columns (new_rows (length columns) sources s rows)) ≡ None → value_refusal columns (new_rows (length columns) sources s rows) ≡ None
+      by : (two : Bool) → cond two (Some refused.Cardinality)
+          (value_refusal columns (new_rows (length columns) sources s rows)) ≡ None
+          → value_refusal columns (new_rows (length columns) sources s rows) ≡ None
       by true none = absurd cc
       by false none = none
 
-  after_good : (s : Statement) (rows : List (List Value)) → statement_fits columns sources s ≡ true → list_all (is_row columns) rows ≡ true → refusal columns sources s rows ≡ None → list_all (is_row columns) (rows_after (length columns) sources s rows) ≡ true
+  after_good : (s : Statement) (rows : List (List Value)) → statement_fits columns sources s ≡ true
+      → list_all (is_row columns) rows ≡ true → refusal columns sources s rows ≡ None
+      → list_all (is_row columns) (rows_after (length columns) sources s rows) ≡ true
   after_good s rows fit are none =
       let replaced = flat_map (replacements sources s) rows in
       let inserted = insertions (length columns) sources s rows in
@@ -334,10 +379,13 @@ module _ (columns : List Column) (sources : List Source) (good : list_all source
       ∙ and_both _ _ (all_remain_good s rows are (and_left _ _ both)) (rows_of_good inserted (and_right (list_all (is_good columns) replaced) _ both))
 
 -- a statement that fits leaves rows of the columns
-pub rows_stay : (columns : List Column) (sources : List Source) (s : Statement) (rows left : List (List Value)) → list_all source_has_rows sources ≡ true → statement_fits columns sources s ≡ true → AreRows columns rows → result_of columns sources s rows ≡ Ok left → AreRows columns left
+pub rows_stay : (columns : List Column) (sources : List Source) (s : Statement) (rows left : List (List Value))
+    → list_all source_has_rows sources ≡ true → statement_fits columns sources s ≡ true → AreRows columns rows
+    → result_of columns sources s rows ≡ Ok left → AreRows columns left
 rows_stay columns sources s rows left good fit are h = by (refusal columns sources s rows) refl h
   where
-    by : (why : Option SqlRefusal) → refusal columns sources s rows ≡ why → unless_refused why (rows_after (length columns) sources s rows) ≡ Ok left → AreRows columns left
+    by : (why : Option SqlRefusal) → refusal columns sources s rows ≡ why
+        → unless_refused why (rows_after (length columns) sources s rows) ≡ Ok left → AreRows columns left
     by None is gives =
         let same : rows_after (length columns) sources s rows ≡ left = cc in
         subst (λ all. AreRows columns all) same (after_good columns sources good s rows fit are is)

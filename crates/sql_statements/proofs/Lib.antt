@@ -1,9 +1,10 @@
-pub mod Digits
-pub mod FilterLaws
-pub mod KindLaws
-pub mod LocalLaws
-pub mod RunKinds
-pub mod RunLaws
-pub mod StatementLaws
-pub mod Steps
-pub mod Widths
+pub mod CallerLemmas
+mod Digits
+mod FilterLaws
+mod KindLaws
+mod LocalLaws
+mod RunKinds
+mod RunLaws
+mod StatementLaws
+mod Steps
+mod Widths

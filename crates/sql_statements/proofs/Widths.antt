@@ -28,11 +28,13 @@ wide_sight false sight width h = refl
 wide_joined : (target row : List Value) (width : ℕ) → IsTrue (length row == width) → IsTrue (length (target ++ row) == length target + width)
 wide_joined target row width h = eq-eqb _ _ (length-append target row ∙ ap (λ n. length target + n) (eqb-true (length row) width h))
 
-wide_match : (on : Pred) (target row : List Value) (width : ℕ) → IsTrue (length row == width) → IsTrue (are_wide (length target + width) (match_of on target row))
+wide_match : (on : Pred) (target row : List Value) (width : ℕ) → IsTrue (length row == width)
+    → IsTrue (are_wide (length target + width) (match_of on target row))
 unfolding match_of
 wide_match on target row width h = wide_sight (holds_on on (target ++ row)) (target ++ row) (length target + width) (wide_joined target row width h)
 
-wide_matches : (on : Pred) (rows : List (List Value)) (target : List Value) (width : ℕ) → IsTrue (are_wide width rows) → IsTrue (are_wide (length target + width) (matches on rows target))
+wide_matches : (on : Pred) (rows : List (List Value)) (target : List Value) (width : ℕ) → IsTrue (are_wide width rows)
+    → IsTrue (are_wide (length target + width) (matches on rows target))
 wide_matches on [] target width h = refl
 wide_matches on (row ∷ rows) target width h =
     list_all-append (λ (r : List Value). length r == length target + width) (match_of on target row) (matches on rows target)
@@ -41,7 +43,9 @@ wide_matches on (row ∷ rows) target width h =
     (wide_matches on rows target width (and_right (length row == width) (are_wide width rows) h))
 
 -- target rows beside the source rows that match are as wide as both
-pub wide_sights : (on : Pred) (rows sights : List (List Value)) (target : List Value) (width padding : ℕ) → IsTrue (are_wide width rows) → padding ≡ width → sights ≡ matches on rows target → IsTrue (are_wide (length target + padding) sights)
+pub wide_sights : (on : Pred) (rows sights : List (List Value)) (target : List Value) (width padding : ℕ)
+    → IsTrue (are_wide width rows) → padding ≡ width → sights ≡ matches on rows target
+    → IsTrue (are_wide (length target + padding) sights)
 wide_sights on rows sights target width padding wide same is =
     ap (λ n. are_wide (length target + n) sights) same ∙ ap (are_wide (length target + width)) is ∙ wide_matches on rows target width wide
 

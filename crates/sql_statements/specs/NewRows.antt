@@ -9,13 +9,13 @@ use Rattle.row_values.specs.declared.value.Value.TheVariants as value
 use Rattle.row_values.specs.declared.schema.Column.{Column}
 use Rattle.row_values.specs.Rows.{has_digits, is_null}
 use Rattle.sql_predicates.specs.declared.expr.Expr.{Expr}
-use Rattle.sql_predicates.specs.Exprs.{Answer, value_of}
+use Rattle.sql_predicates.specs.Exprs.{Evaluated, value_of}
 use Rattle.sql_statements.specs.declared.statement.Set.{Set}
 
 abbrev pub NewRow : Type 0
 NewRow = List (Option Value)
 
-abbrev pub computed : Answer → Option Value
+abbrev pub computed : Evaluated → Option Value
 computed (Ok v) = Some v
 computed (Err fault) = None
 

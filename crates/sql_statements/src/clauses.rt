@@ -8,9 +8,10 @@ ghost use Rattle.sql_statements.specs.Clauses.{holds_on};
 ghost use Rattle.sql_statements.specs.Fits.{clauses_are_within, clause_is_within, are_wide};
 
 use crate::new_row::{new_row, updated};
-use crate::{Action, Clause, Effect, List, NewRow, Pred, Row, Value, When};
-use row_values::copy_row;
-use sql_predicates::{Truth, eval};
+use crate::{Action, Clause, Effect, NewRow, When};
+use plain_types::List;
+use row_values::{Row, Value, copy_row};
+use sql_predicates::{Pred, Truth, eval};
 use std::alloc::{AllocError, Global};
 
 /// Whether the predicate is True of the row.

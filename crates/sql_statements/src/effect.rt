@@ -1,4 +1,5 @@
-use crate::{List, Value};
+use plain_types::List;
+use row_values::Value;
 use std::alloc::AllocError;
 
 /// A new row as computed, in which a value that overflowed is absent.

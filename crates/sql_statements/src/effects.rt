@@ -10,11 +10,10 @@ ghost use Rattle.sql_statements.specs.Fits.{statement_is_within, merge_is_within
 use crate::clauses::{effect_by, extended, holds, insertion, matches, nulls, refuses_two};
 use crate::faults::{any_overflows, first_null};
 use crate::new_row::{new_row, row_of, updated};
-use crate::{
-    Column, Effect, Expr, List, Merge, NewRow, PlainFault, Row, Source, SqlRefusal, Statement,
-    TableSchema,
-};
-use row_values::copy_row;
+use crate::{Effect, Merge, NewRow, PlainFault, Source, SqlRefusal, Statement};
+use plain_types::List;
+use row_values::{Column, Row, TableSchema, copy_row};
+use sql_predicates::Expr;
 use std::alloc::{AllocError, Global};
 
 /// What a MERGE does with a row of its branch.

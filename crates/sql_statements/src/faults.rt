@@ -5,8 +5,8 @@ ghost use Rattle.std.specs.List.{list_any};
 ghost use Rattle.row_values.specs.Rows as rows;
 ghost use Rattle.sql_statements.specs.NewRows as spec;
 
-use crate::{Column, NewRow, Value};
-use row_values::Kind;
+use crate::NewRow;
+use row_values::{Column, Kind, Value};
 
 /// Whether the amount has at most so many digits.
 fn has_digits(precision: u8, unscaled: i128) -> bool

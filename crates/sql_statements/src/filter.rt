@@ -4,8 +4,8 @@ ghost use Rattle.std.specs.Prelude.{◌≡◌, IfOk};
 ghost use Rattle.std.specs.List.{list_any};
 ghost use Rattle.sql_statements.specs.Filter as spec;
 
-use crate::{Clause, Merge, Pred, Statement, When};
-use sql_predicates::Boxed;
+use crate::{Clause, Merge, Statement, When};
+use sql_predicates::{Boxed, Pred};
 use std::alloc::{AllocError, Global};
 
 /// The filter of the statement on a table of so many columns.

@@ -4,7 +4,10 @@ ghost use Rattle.std.specs.Prelude.{◌≡◌, ◌+◌, Some, length};
 ghost use Rattle.std.specs.List.{list_all};
 ghost use Rattle.sql_statements.specs.Fits as spec;
 
-use crate::{Action, Clause, Column, Expr, List, Merge, Row, Set, Source, Statement};
+use crate::{Action, Clause, Merge, Set, Source, Statement};
+use plain_types::List;
+use row_values::{Column, Row};
+use sql_predicates::Expr;
 
 impl Statement {
     /// Whether each position that the statement reads is in rows of these columns and of the sources.

@@ -1,5 +1,8 @@
 //! What the statements mean. A statement decides for each row of a branch whether it is kept, removed or
 //! replaced, and which rows are inserted, or it is refused. It sees a bag of rows and nothing of files.
+//!
+//! Rows in another order, or those alone of which the filter is True, give the same decisions; so what is done file by file is
+//! what SQL does with the whole.
 #![tactic(auto)]
 
 mod clauses;

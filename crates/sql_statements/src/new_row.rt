@@ -3,8 +3,10 @@ ghost use Rattle.sql_predicates.specs.Positions.{expr_is_within};
 ghost use Rattle.sql_statements.specs.NewRows as spec;
 ghost use Rattle.sql_statements.specs.Fits.{exprs_are_within, sets_are_within};
 
-use crate::{Expr, List, NewRow, Row, Set, Value};
-use sql_predicates::{ExprFault, eval_expr};
+use crate::{NewRow, Set};
+use plain_types::List;
+use row_values::{Row, Value};
+use sql_predicates::{Expr, ExprFault, eval_expr};
 use std::alloc::{AllocError, Global};
 
 /// The value of an expression on the row in sight, absent where it overflows.

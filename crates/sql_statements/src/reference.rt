@@ -13,9 +13,9 @@ use crate::clauses::{extended, insertion, matches_two, nulls, refuses_two};
 use crate::effects::{all_remains, all_replacements, tuple_rows};
 use crate::faults::{any_overflows, first_null};
 use crate::new_row::row_of;
-use crate::{
-    Column, List, Merge, NewRow, PlainFault, Row, Source, SqlRefusal, Statement, TableSchema,
-};
+use crate::{Merge, NewRow, PlainFault, Source, SqlRefusal, Statement};
+use plain_types::List;
+use row_values::{Column, Row, TableSchema};
 use std::alloc::{AllocError, Global};
 
 /// The rows that the statement leaves of the rows of its branch, or why it is refused.

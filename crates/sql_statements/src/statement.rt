@@ -1,4 +1,6 @@
-use crate::{Column, Expr, List, Pred, Row, Text};
+use plain_types::{List, Text};
+use row_values::{Column, Row};
+use sql_predicates::{Expr, Pred};
 
 /// A statement on one branch of the table.
 #[derive(Debug, Drop)]

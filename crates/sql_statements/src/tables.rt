@@ -3,7 +3,8 @@
 ghost use Rattle.std.specs.Prelude.{◌≡◌};
 ghost use Rattle.sql_statements.specs.Tables as spec;
 
-use crate::{Statement, Text};
+use crate::Statement;
+use plain_types::Text;
 
 impl Statement {
     /// Whether the statement may change rows.

@@ -42,7 +42,9 @@ pub get-files_of : (files : List File) (name : List ℕ) → finite.get (files_o
 get-files_of files name = get-from_entries nat_list_cmp_total (pairs files) name
 
 -- the names of the files from one place on, and from the place before it
-pub keys-drop : (files : List File) (left : ℕ) (file : File) → 0 < left → left ≤ length files → file ≡ get_or files (left - 1) file → finite.keys (files_of (drop (left - 1) files)) ≡ with_name file.name (finite.keys (files_of (drop left files)))
+pub keys-drop : (files : List File) (left : ℕ) (file : File) → 0 < left → left ≤ length files
+    → file ≡ get_or files (left - 1) file
+    → finite.keys (files_of (drop (left - 1) files)) ≡ with_name file.name (finite.keys (files_of (drop left files)))
 keys-drop files left file some within is =
     let there : left - 1 < length files = omega arith in
     let next : (left - 1) + 1 ≡ left = omega arith in
@@ -52,13 +54,15 @@ keys-drop files left file some within is =
     ∙ ap (λ n. with_name file.name (finite.keys (files_of (drop n files)))) next
 
 -- a file more at the end of the list, under a name that is new
-pub files_of-push : (files : List File) (file : File) → finite.get (files_of files) file.name ≡ None → files_of (files ++ file ∷ []) ≡ with_file file.name file.bytes (files_of files)
+pub files_of-push : (files : List File) (file : File) → finite.get (files_of files) file.name ≡ None
+    → files_of (files ++ file ∷ []) ≡ with_file file.name file.bytes (files_of files)
 files_of-push files file new =
     ap finite.from_entries (map-append (λ (f : File). (f.name, f.bytes)) files (file ∷ []))
     ∙ from_entries_push nat_list_cmp_total (slice_cmp-IsAntisymmetric nat_cmp-IsAntisymmetric) (pairs files) file.name file.bytes (sym (get-files_of files file.name) ∙ new)
 
 -- what is there is there beside a new file
-stays : (files : Files) (name bytes other old : List ℕ) → finite.get files name ≡ None → finite.get files other ≡ Some old → (o : Ordering) → slice_cmp nat_cmp other name ≡ o → cond (is_eq o) (Some bytes) (finite.get files other) ≡ Some old
+stays : (files : Files) (name bytes other old : List ℕ) → finite.get files name ≡ None → finite.get files other ≡ Some old
+    → (o : Ordering) → slice_cmp nat_cmp other name ≡ o → cond (is_eq o) (Some bytes) (finite.get files other) ≡ Some old
 stays files name bytes other old new there Less is = there
 stays files name bytes other old new there Greater is = there
 stays files name bytes other old new there Equal is =
@@ -74,7 +78,8 @@ pub kept-with_file : (files : Files) (name bytes : List ℕ) → finite.get file
 kept-with_file files name bytes new other old there =
     get-insert nat_list_cmp_total files name bytes other ∙ stays files name bytes other old new there (slice_cmp nat_cmp other name) refl
 
-kept_by : (files : Files) (name bytes : List ℕ) (held : Option (List ℕ)) → finite.get files name ≡ held → KeepsFiles (Some files) (Some (cond (is_some held) files (with_file name bytes files)))
+kept_by : (files : Files) (name bytes : List ℕ) (held : Option (List ℕ)) → finite.get files name ≡ held
+    → KeepsFiles (Some files) (Some (cond (is_some held) files (with_file name bytes files)))
 kept_by files name bytes None is = kept-with_file files name bytes is
 kept_by files name bytes (Some old) is = kept-same (Some files)
 
@@ -85,7 +90,8 @@ kept-swapped files name bytes = kept_by files name bytes (finite.get files name)
 pub kept-trans : (old middle new : Option Files) → KeepsFiles old middle → KeepsFiles middle new → KeepsFiles old new
 kept-trans old middle new first then name bytes there = then name bytes (first name bytes there)
 
-pub kept-left_by_put : (leave : Leave) (files : Files) (name bytes : List ℕ) → finite.get files name ≡ None → KeepsFiles (Some files) (Some (left_by_put leave name bytes files))
+pub kept-left_by_put : (leave : Leave) (files : Files) (name bytes : List ℕ) → finite.get files name ≡ None
+    → KeepsFiles (Some files) (Some (left_by_put leave name bytes files))
 kept-left_by_put Nothing files name bytes new = kept-same (Some files)
 kept-left_by_put Half files name bytes new = kept-with_file files name (take (length bytes / 2) bytes) new
 kept-left_by_put Whole files name bytes new = kept-with_file files name bytes new

@@ -1,2 +1,3 @@
-pub mod FilesLemmas
-pub mod WrittenLemmas
+pub mod CallerLemmas
+mod FilesLemmas
+mod WrittenLemmas

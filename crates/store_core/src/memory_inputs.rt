@@ -2,8 +2,8 @@
 ghost use Rattle.std.specs.Prelude.{◌≡◌};
 
 use crate::memory_store::find;
-use crate::{File, InputAnswer, Inputs, IoFault, List};
-use plain_types::Bytes as Blob;
+use crate::{File, InputAnswer, Inputs, IoFault};
+use plain_types::{Bytes as Blob, List};
 use std::alloc::Global;
 
 /// A list of files, of whose reads one can be made to fail.

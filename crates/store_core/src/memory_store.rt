@@ -1,5 +1,28 @@
 // A store in memory. Any of its calls can be made to fail.
-ghost use Rattle.std.specs.Prelude.{◌≡◌, ◌⊎◌, ℕ, [], ◌∷◌, ◌++◌, Some, None, IfOk, OnOk, OnErr, IsErr, IsOk, IsSome, IfSome, IsErrOf, option_map, length, take, ◌/◌, ◌↔◌, IsTrue};
+ghost use Rattle.std.specs.Prelude.{
+  ◌≡◌,
+  ◌⊎◌,
+  ℕ,
+  [],
+  ◌∷◌,
+  ◌++◌,
+  Some,
+  None,
+  IfOk,
+  OnOk,
+  OnErr,
+  IsErr,
+  IsOk,
+  IsSome,
+  IfSome,
+  IsErrOf,
+  option_map,
+  length,
+  take,
+  ◌/◌,
+  ◌↔◌,
+  IsTrue,
+};
 ghost use Rattle.std.specs.Option.{ForSome};
 ghost use Rattle.std.specs.FinMap as map;
 ghost use Rattle.plain_types.specs.Causes.{bump, HasCause};
@@ -321,7 +344,8 @@ impl Store for MemoryStore {
         ensures reads { reads_of self.new ≡ reads_of self.old }
         ensures unsettled { unsettled_of self.new ≡ unsettled_after result (unsettled_of self.old) }
         ensures cause { HasCause fault.Failed fault.Memory (faults_of self.old) (faults_of self.new) result }
-        ensures planned { IsErrOf result fault.Failed → IfSome (leave_of kind.Put self.old) (λ leave. told self.new ≡ option_map (left_by_put leave name.now bytes.now) (told self.old)) }
+        ensures planned { IsErrOf result fault.Failed → IfSome (leave_of kind.Put self.old)
+            (λ leave. told self.new ≡ option_map (left_by_put leave name.now bytes.now) (told self.old)) }
         ensures only_planned { IsErrOf result fault.Failed → IsSome (leave_of kind.Put self.old) }
         ensures fails { IsSome (leave_of kind.Put self.old) → IsErr result }
         ensures called { Called kind.Put self.old self.new }
@@ -346,7 +370,8 @@ impl Store for MemoryStore {
         ensures reads { reads_of self.new ≡ reads_of self.old }
         ensures unsettled { unsettled_of self.new ≡ unsettled_after result (unsettled_of self.old) }
         ensures cause { HasCause fault.Failed fault.Memory (faults_of self.old) (faults_of self.new) result }
-        ensures planned { IsErrOf result fault.Failed → IfSome (leave_of kind.Swap self.old) (λ leave. told self.new ≡ option_map (left_by_swap leave name.now bytes.now) (told self.old)) }
+        ensures planned { IsErrOf result fault.Failed → IfSome (leave_of kind.Swap self.old)
+            (λ leave. told self.new ≡ option_map (left_by_swap leave name.now bytes.now) (told self.old)) }
         ensures only_planned { IsErrOf result fault.Failed → IsSome (leave_of kind.Swap self.old) }
         ensures fails { IsSome (leave_of kind.Swap self.old) → IsErr result }
         ensures called { Called kind.Swap self.old self.new }

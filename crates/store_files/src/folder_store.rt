@@ -3,18 +3,24 @@ ghost use Rattle.plain_types.specs.Causes.{bump};
 ghost use Rattle.store_files.specs.Counts.{counts_after};
 
 use crate::folder;
+use crate::folder::Reading;
 use std::alloc::Global;
 use std::io;
 use std::io::ErrorKind;
 use std::rt::Files;
 use store_core::{Blob, List, Name, ReadAnswer, Store, StoreFault, SwapAnswer};
 
-/// A store whose names are paths below the working folder. Every error of the system counts as a fault, but for one that
-/// tells that a name is there or isn't.
+/// The longest file that is read, in bytes.
+const LONGEST_FILE: u64 = 1 << 31;
+
+/// A store whose names are paths below the working folder. A name is there where a regular file is, links followed. Every
+/// error of the system counts as a fault, but for one that tells that a name is there or isn't.
 #[derive(Drop)]
 pub struct FolderStore<R> {
     rt: R,
     counts: Counts,
+    /// The folders with files whose names the last swap has not brought to the disk yet.
+    noted: Vec<String>,
 }
 
 #[derive(Clone, Copy, Debug, PartialEq, Eq)]
@@ -33,6 +39,7 @@ impl<R: Files + AllocGlobal + Clone + Drop> FolderStore<R> {
         ensures reads { ⟦<FolderStore<R> as Store>⟧.reads result ≡ 0 }
         ensures unsettled { ⟦<FolderStore<R> as Store>⟧.unsettled result ≡ 0 }
     {
+        let noted = Vec::new(rt.alloc());
         FolderStore {
             rt,
             counts: Counts {
@@ -40,6 +47,7 @@ impl<R: Files + AllocGlobal + Clone + Drop> FolderStore<R> {
                 reads: 0,
                 unsettled: 0,
             },
+            noted,
         }
     }
 }
@@ -64,27 +72,30 @@ impl<R: Files + AllocGlobal + Clone + Drop> Store for FolderStore<R> {
 
     fn read(&mut self, _alloc: Global, name: &str) -> Result<ReadAnswer, StoreFault> {
         self.counts.reads = self.counts.reads.saturating_add(1);
-        match folder::read(&self.rt, name) {
-            Ok(bytes) => {
+        match folder::read(&self.rt, name, LONGEST_FILE) {
+            Ok(Reading::Found(bytes)) => {
                 self.counts.unsettled = 0;
                 Ok(ReadAnswer::Found(Blob::from_vec(bytes)))
             }
-            Err(error) if error.kind() == ErrorKind::NotFound => Ok(ReadAnswer::Missing),
+            Ok(Reading::Missing | Reading::NoFile) => Ok(ReadAnswer::Missing),
+            Ok(Reading::TooLong) => {
+                let error = io::Error::from(ErrorKind::FileTooLarge);
+                Err(count(&mut self.counts, error))
+            }
             Err(error) => Err(count(&mut self.counts, error)),
         }
     }
 
-    fn put(&mut self, _alloc: Global, name: &str, bytes: &[u8]) -> Result<(), StoreFault> {
-        match folder::create(&self.rt, name, bytes) {
+    fn put(&mut self, alloc: Global, name: &str, bytes: &[u8]) -> Result<(), StoreFault> {
+        match folder::put(&self.rt, alloc, name, bytes, &mut self.noted) {
             Ok(()) => Ok(()),
             Err(error) => Err(count(&mut self.counts, error)),
         }
     }
 
-    fn swap(&mut self, _alloc: Global, name: &str, bytes: &[u8]) -> Result<SwapAnswer, StoreFault> {
-        match folder::create(&self.rt, name, bytes) {
-            Ok(()) => Ok(SwapAnswer::Won),
-            Err(error) if error.kind() == ErrorKind::AlreadyExists => Ok(SwapAnswer::Lost),
+    fn swap(&mut self, alloc: Global, name: &str, bytes: &[u8]) -> Result<SwapAnswer, StoreFault> {
+        match folder::swap(&self.rt, alloc, name, bytes, &mut self.noted) {
+            Ok(answer) => Ok(answer),
             Err(error) => Err(count(&mut self.counts, error)),
         }
     }

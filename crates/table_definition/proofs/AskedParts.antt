@@ -11,17 +11,16 @@ use Rattle.plain_types.specs.Steps.{or_fault, fault_if, fault_as, by_option}
 use Rattle.table_metadata.specs.declared.properties.Properties.{Properties}
 use Rattle.table_metadata.specs.Metadata.{json_of}
 use Rattle.table_metadata.specs.Properties.{properties_of, retries_of, least_to_merge_of}
-use Rattle.table_metadata.specs.SchemaJson.{table_schema_of}
-use Rattle.table_metadata.specs.SpecJson.{spec_of}
+use Rattle.iceberg_schema.specs.SchemaJson.{table_schema_of}
+use Rattle.iceberg_schema.specs.SpecJson.{spec_of}
 use Rattle.table_metadata.specs.TableKeys.{all_texts, properties_shape}
 use Rattle.table_metadata.specs.TableProperties.{table_properties_of}
-use Rattle.table_metadata.proofs.Coherence.{one_value, two_steps}
-use Rattle.table_metadata.proofs.SchemaSoundness.{untested}
+use Rattle.iceberg_schema.proofs.CallerLemmas.{untested}
+use Rattle.plain_types.proofs.CallerLemmas.{one_value, two_steps}
 use Rattle.metadata_writer.specs.NewTable.{only_properties, spec_data}
-use Rattle.metadata_writer.proofs.NewRead.{found}
-use Rattle.metadata_writer.proofs.Texts.{writable-read}
+use Rattle.metadata_writer.proofs.CallerLemmas.{found, writable-read}
 use Rattle.table_definition.specs.declared.definition.DefinitionFault.TheVariants as fault
-use Rattle.table_definition.specs.Definition.{Asked, asked_in, definition_of, fields_in, form_of, has_only_keys, nests, no_schema, object_of, properties_in, schema_in, spec_in}
+use Rattle.table_definition.specs.Definition.{Asked, asked_in, definition_of, fields_in, form_of, has_only_keys, is_struct, nests, no_schema, object_of, properties_in, schema_in, spec_in}
 use Rattle.table_definition.specs.FirstText.{properties_json, schema_json}
 
 pub record IsAsked (a : Asked) : Type 0 where
@@ -42,12 +41,14 @@ of_text false e r a h = cc
 
 -- ---- the properties alone
 
-shape_alone : (o : Option Data) (d : Data) → get (codes "properties") d ≡ o → properties_shape (only_properties (by_option o (λ p. p) (object no_members))) ≡ properties_shape d
+shape_alone : (o : Option Data) (d : Data) → get (codes "properties") d ≡ o
+    → properties_shape (only_properties (by_option o (λ p. p) (object no_members))) ≡ properties_shape d
 unfolding properties_shape all_texts
 shape_alone (Some p) d h = rw h refl
 shape_alone None d h = rw h refl
 
-properties_alone : (o : Option Data) (d : Data) → get (codes "properties") d ≡ o → properties_of (only_properties (by_option o (λ p. p) (object no_members))) ≡ properties_of d
+properties_alone : (o : Option Data) (d : Data) → get (codes "properties") d ≡ o
+    → properties_of (only_properties (by_option o (λ p. p) (object no_members))) ≡ properties_of d
 unfolding properties_of retries_of least_to_merge_of
 properties_alone (Some p) d h = rw h refl
 properties_alone None d h = rw h refl
@@ -78,7 +79,8 @@ form_depth d ms h =
 schema_read : (d : Data) (schema : TableSchema) → schema_in d ≡ Ok schema → table_schema_of (schema_json d) ≡ Ok schema
 schema_read d schema h =
     let s = two_steps (or_fault fault.Schema (get (codes "schema") d)) _ schema h in
-    rw (found fault.Schema (get (codes "schema") d) s.0 s.1) (same_value no_schema _ schema s.2)
+    let typed = two_steps (fault_if fault.Schema (not (is_struct s.0))) _ schema s.2 in
+    rw (found fault.Schema (get (codes "schema") d) s.0 s.1) (same_value no_schema _ schema typed.2)
 
 asked_of_data : (d : Data) (a : Asked) → asked_in d ≡ Ok a → has_float d ≡ false → IsAsked a
 unfolding asked_in

@@ -8,14 +8,11 @@ use Rattle.row_values.specs.declared.partition.PartField.{PartField}
 use Rattle.row_values.specs.declared.schema.Column.{Column}
 use Rattle.table_metadata.specs.Metadata.{json_of, metadata_of}
 use Rattle.table_metadata.specs.TableKeys.{is_uuid}
-use Rattle.table_metadata.proofs.SchemaSoundness.{sound_schema}
-use Rattle.metadata_writer.specs.Fitting.{IsInt, IsLong}
+use Rattle.iceberg_schema.proofs.CallerLemmas.{sound_schema}
+use Rattle.iceberg_schema.specs.Widths.{IsInt, IsLong}
 use Rattle.metadata_writer.specs.NewTable.{Made, IsMadeOf, first_version}
 use Rattle.metadata_writer.specs.Writable.{IsWritable}
-use Rattle.metadata_writer.proofs.NewFits.{sound_schema-fits}
-use Rattle.metadata_writer.proofs.NewRead.{text-first_version}
-use Rattle.metadata_writer.proofs.NewWithin.{writable-first_version}
-use Rattle.metadata_writer.proofs.Within.{Within, FoundWithin, array-within, empty-within, get-within, no_items-within}
+use Rattle.metadata_writer.proofs.CallerLemmas.{sound_schema-fits, text-first_version, writable-first_version, Within, FoundWithin, array-within, empty-within, get-within, no_items-within}
 use Rattle.table_definition.specs.Definition.{Asked, definition_of}
 use Rattle.table_definition.specs.FirstText.{first_text, made_of, parts_made, schema_json}
 use Rattle.table_definition.specs.LastIds.{last_column, last_partition}
@@ -47,7 +44,8 @@ pub record FitsKeys (t : Made) : Type 0 where
   pub last_column : IsInt t.last_column
   pub last_partition : IsInt t.last_partition
 
-made : (location : List ℕ) (now : ℤ) (a : Asked) → IsAsked a → FitsKeys (made_of location now a) → IsLong now → IsMadeOf a.schema a.spec a.properties (made_of location now a)
+made : (location : List ℕ) (now : ℤ) (a : Asked) → IsAsked a → FitsKeys (made_of location now a) → IsLong now
+    → IsMadeOf a.schema a.spec a.properties (made_of location now a)
 made location now a is fits long = record {
   uuid = fits.uuid;
   reads_schema = is.schema;
@@ -61,13 +59,17 @@ made location now a is fits long = record {
   created = long;
 }
 
-pub exact_text : (bytes text location : List ℕ) (now : ℤ) (a : Asked) (t : Made) (json : Data) → definition_of bytes ≡ Ok a → t ≡ made_of location now a → json ≡ first_version t → (has_float json ≡ false → text ≡ compact_text json) → text ≡ first_text location now a
+pub exact_text : (bytes text location : List ℕ) (now : ℤ) (a : Asked) (t : Made) (json : Data) → definition_of bytes ≡ Ok a
+    → t ≡ made_of location now a → json ≡ first_version t → (has_float json ≡ false → text ≡ compact_text json)
+    → text ≡ first_text location now a
 exact_text bytes text location now a t json h e k written =
     let same = k ∙ ap first_version e in
     let w = writable location now a (asked_parts bytes a h) in
     written (ap has_float same ∙ w.whole) ∙ ap compact_text same
 
-pub read_text : (bytes text location : List ℕ) (now : ℤ) (a : Asked) (t : Made) (json : Data) → definition_of bytes ≡ Ok a → t ≡ made_of location now a → json ≡ first_version t → FitsKeys t → IsLong now → (IsWritable json → json_of text ≡ Ok json) → metadata_of text ≡ Ok (parts_made location now a)
+pub read_text : (bytes text location : List ℕ) (now : ℤ) (a : Asked) (t : Made) (json : Data) → definition_of bytes ≡ Ok a
+    → t ≡ made_of location now a → json ≡ first_version t → FitsKeys t → IsLong now → (IsWritable json → json_of text ≡ Ok json)
+    → metadata_of text ≡ Ok (parts_made location now a)
 read_text bytes text location now a t json h e k fits long back =
     let is = asked_parts bytes a h in
     let again : IsWritable (first_version (made_of location now a)) → json_of text ≡ Ok (first_version (made_of location now a)) = subst (λ (d : Data). IsWritable d → json_of text ≡ Ok d) (k ∙ ap first_version e) back in

@@ -1,4 +1,4 @@
-pub mod AskedParts
-pub mod Depths
-pub mod FirstText
-pub mod LastIds
+mod AskedParts
+mod Depths
+mod FirstText
+mod LastIds

@@ -12,8 +12,9 @@ use Rattle.row_values.specs.declared.partition.Spec.{Spec}
 use Rattle.plain_types.specs.Steps.{◌>>=◌, or_fault, fault_if, fault_as, by_option}
 use Rattle.table_metadata.specs.declared.properties.Properties.{Properties}
 use Rattle.table_metadata.specs.Metadata.{json_of}
-use Rattle.table_metadata.specs.SchemaJson.{table_schema_of}
-use Rattle.table_metadata.specs.SpecJson.{spec_of}
+use Rattle.iceberg_schema.specs.Keys.{text_at}
+use Rattle.iceberg_schema.specs.SchemaJson.{table_schema_of}
+use Rattle.iceberg_schema.specs.SpecJson.{spec_of}
 use Rattle.table_metadata.specs.TableProperties.{table_properties_of}
 use Rattle.metadata_writer.specs.NewTable.{spec_data}
 use Rattle.table_definition.specs.declared.definition.Definition.{Definition}
@@ -55,8 +56,15 @@ form_of d = do
   _ ← fault_if fault.Schema (not (nests d))
   Ok members
 
+-- a schema is of the type `struct` ("Schemas")
+abbrev pub is_struct : Data → Bool
+is_struct schema = by_option (text_at (codes "type") schema) (λ name. pointwise nat_eq name (codes "struct")) false
+
 abbrev pub schema_in : Data → Result TableSchema DefinitionFault
-schema_in d = or_fault fault.Schema (get (codes "schema") d) >>= λ json. fault_as no_schema (table_schema_of json)
+schema_in d = do
+  schema ← or_fault fault.Schema (get (codes "schema") d)
+  _ ← fault_if fault.Schema (not (is_struct schema))
+  fault_as no_schema (table_schema_of schema)
 
 -- the partition spec, which is on columns of the schema
 abbrev pub spec_in : TableSchema → Data → Result Spec DefinitionFault

@@ -2,18 +2,29 @@
 ghost use Rattle.std.specs.Prelude.{◌≡◌, ◌≢◌, IfOk, IfErr, OnOk, IsOk, Ok, Err};
 ghost use Rattle.std.specs.Str.{is_utf8};
 ghost use Rattle.serde_json.specs.View.{view, members_view};
-ghost use Rattle.table_definition.specs.Definition.{asked, asked_in, definition_of, fields_in, form_of, has_only_keys, is_key, object_of, properties_in, schema_in, spec_in};
+ghost use Rattle.table_definition.specs.Definition.{
+  asked,
+  asked_in,
+  definition_of,
+  fields_in,
+  form_of,
+  has_only_keys,
+  is_key,
+  is_struct,
+  object_of,
+  properties_in,
+  schema_in,
+  spec_in,
+};
 
 use crate::nesting::nests_within;
+use iceberg_schema::{SchemaJsonFault, SpecFault, read_spec, read_table_schema, text_at};
 use metadata_writer::spec_json;
 use row_values::{Spec, TableSchema};
 use serde_json::{Map, Value};
 use std::alloc::{AllocError, Global};
 use std::str;
-use table_metadata::{
-    MetadataFault, Properties, SchemaJsonFault, SpecFault, read_json, read_spec,
-    read_table_properties, read_table_schema,
-};
+use table_metadata::{MetadataFault, Properties, read_json, read_table_properties};
 
 /// What a schema file asks for.
 #[derive(Drop)]
@@ -31,8 +42,8 @@ pub struct Definition {
 pub enum DefinitionFault {
     /// The bytes are not UTF-8.
     Text,
-    /// The text is no JSON object of the three keys, or one of them is not in form: a schema that cannot be read or is
-    /// absent, a spec that does not fit it, properties that are no texts or out of range, a number that is no whole number
+    /// The text is no JSON object of the three keys, or one of them is not in form: a schema that cannot be read, is
+    /// absent or is not of the type `struct`, a spec that does not fit it, properties that are no texts or out of range, a number that is no whole number
     /// of 64 bits, or more than 125 levels of nesting.
     Schema,
     Memory,
@@ -137,6 +148,16 @@ fn is_key(name: &str) -> bool
     name == "schema" || name == "partition-spec" || name == "properties"
 }
 
+// Whether it says that it is a struct, as other readers want of a schema.
+fn is_struct(schema: &Value) -> bool
+    ensures { result ≡ is_struct (view schema.now) }
+{
+    match text_at(schema, "type") {
+        Some(name) => name == "struct",
+        None => false,
+    }
+}
+
 fn schema_in(alloc: Global, json: &Value) -> Result<TableSchema, DefinitionFault>
     ensures ok { IfOk result (λ s. schema_in (view json.now) ≡ Ok s) }
     ensures err { IfErr result (λ f. f ≢ DefinitionFault.Memory → schema_in (view json.now) ≡ Err f) }
@@ -144,6 +165,9 @@ fn schema_in(alloc: Global, json: &Value) -> Result<TableSchema, DefinitionFault
     let Some(schema) = json.get("schema") else {
         return Err(DefinitionFault::Schema);
     };
+    if !is_struct(schema) {
+        return Err(DefinitionFault::Schema);
+    }
     match read_table_schema(alloc, schema) {
         Ok(schema) => Ok(schema),
         Err(SchemaJsonFault::Memory) => Err(DefinitionFault::Memory),

@@ -3,7 +3,7 @@ ghost use Rattle.std.specs.Prelude.{◌≡◌, ℕ, true, List, IfOk, Ok};
 ghost use Rattle.serde_json.specs.View.{view};
 ghost use Rattle.table_metadata.specs.Metadata.{metadata_of};
 ghost use Rattle.table_metadata.specs.TableKeys.{is_uuid};
-ghost use Rattle.metadata_writer.specs.Fitting.{IsInt};
+ghost use Rattle.iceberg_schema.specs.Widths.{IsInt};
 ghost use Rattle.metadata_writer.specs.NewTable.{made};
 ghost use Rattle.table_definition.specs.Definition.{asked, definition_of};
 ghost use Rattle.table_definition.specs.FirstText.{first_text, made_of, parts_made, properties_json, schema_json};
@@ -25,8 +25,10 @@ pub fn first_text(
     location: &str,
     now_ms: i64,
 ) -> Result<Bytes, AllocError>
-    ensures exact { IfOk result (λ text. (bytes : List ℕ) → definition_of bytes ≡ Ok (asked definition.now) → text ≡ first_text location.now now_ms (asked definition.now)) }
-    ensures reads { IfOk result (λ text. (bytes : List ℕ) → definition_of bytes ≡ Ok (asked definition.now) → metadata_of text ≡ Ok (parts_made location.now now_ms (asked definition.now))) }
+    ensures exact { IfOk result (λ text. (bytes : List ℕ) → definition_of bytes ≡ Ok (asked definition.now)
+        → text ≡ first_text location.now now_ms (asked definition.now)) }
+    ensures reads { IfOk result (λ text. (bytes : List ℕ) → definition_of bytes ≡ Ok (asked definition.now)
+        → metadata_of text ≡ Ok (parts_made location.now now_ms (asked definition.now))) }
 {
     let table = new_table(alloc, definition, location, now_ms)?;
     let json = first_version(alloc, &table)?;

@@ -15,26 +15,21 @@ use Rattle.table_metadata.specs.References.{listed_refs_of, refs_of, all_refs, a
 use Rattle.table_metadata.specs.SchemaList.{schemas_of, specs_of, columns_with}
 use Rattle.table_metadata.specs.Snapshots.{snapshots_of}
 use Rattle.table_metadata.specs.TableKeys.{plain_keys_of, current_ids_of, optional_keys_of}
-use Rattle.plain_types.specs.Steps.{◌>>=◌, or_fault}
-
--- A reading in two steps that succeeds has two steps that do.
-pub two_steps : {A B E : Type 0} → (r : Result A E) (f : A → Result B E) (b : B) → (r >>= f) ≡ Ok b → (a : A) × (r ≡ Ok a) × (f a ≡ Ok b)
-two_steps (Ok a) f b h = (a, refl, h)
-two_steps (Err e) f b h = cc
-
-pub one_value : {A E : Type 0} → (a b : A) (r : Result A E) → r ≡ Ok a → r ≡ Ok b → a ≡ b
-one_value a b r h k = cc
+use Rattle.plain_types.specs.Steps.{or_fault}
+use Rattle.plain_types.proofs.CallerLemmas.{one_value, two_steps}
 
 is_there : {A E : Type 0} → (e : E) (o : Option A) (a : A) → or_fault e o ≡ Ok a → IsSome o
 is_there e (Some x) a h = refl
 is_there e None a h = cc
 
-current_schema_stands : (id : ℤ) (schemas : List TableSchema) (d : Data) (specs : List Spec) → specs_of id schemas d ≡ Ok specs → IsSome (columns_with id schemas)
+current_schema_stands : (id : ℤ) (schemas : List TableSchema) (d : Data) (specs : List Spec) → specs_of id schemas d ≡ Ok specs
+    → IsSome (columns_with id schemas)
 unfolding specs_of
 current_schema_stands id schemas d specs h =
     let s = two_steps _ _ specs h in is_there _ (columns_with id schemas) s.0 s.1
 
-refs_hold : (current : Option ℤ) (snapshots : List Snapshot) (listed refs : List RefItem) → refs_of current snapshots listed ≡ Ok refs → IsOk (all_hold current snapshots refs)
+refs_hold : (current : Option ℤ) (snapshots : List Snapshot) (listed refs : List RefItem)
+    → refs_of current snapshots listed ≡ Ok refs → IsOk (all_hold current snapshots refs)
 unfolding refs_of
 refs_hold current snapshots listed refs h =
     let s = two_steps (all_hold current snapshots (all_refs current listed)) _ refs h in

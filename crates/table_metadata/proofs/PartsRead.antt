@@ -11,7 +11,7 @@ use Rattle.table_metadata.specs.SchemaList.{schemas_of, specs_of}
 use Rattle.table_metadata.specs.Snapshots.{snapshots_of}
 use Rattle.table_metadata.specs.TableKeys.{plain_keys_of, current_ids_of, optional_keys_of}
 use Rattle.plain_types.specs.Steps.{◌>>=◌}
-use Rattle.table_metadata.proofs.Coherence.{one_value, two_steps}
+use Rattle.plain_types.proofs.CallerLemmas.{one_value, two_steps}
 
 pub record IsReadAs (d : Data) (p : Parts) : Type 0 where
   pub version : p.format_version ≡ 2

@@ -8,7 +8,7 @@ use Rattle.serde_json.specs.Data.{Data, Items, no_items, item, Members, no_membe
 use Rattle.serde_json.specs.Find.{get, as_object}
 use Rattle.table_metadata.specs.declared.metadata_fault.MetadataFault.{MetadataFault}
 use Rattle.table_metadata.specs.declared.metadata_fault.MetadataFault.TheVariants as fault
-use Rattle.table_metadata.specs.Keys.{items_at, members_at, whole_of}
+use Rattle.iceberg_schema.specs.Keys.{items_at, members_at, whole_of}
 use Rattle.plain_types.specs.Steps.{◌>>=◌, fault_if, by_option}
 
 abbrev pub needs : List ℕ → Data → Result ⊤ MetadataFault

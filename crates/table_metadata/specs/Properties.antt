@@ -8,7 +8,7 @@ use Rattle.table_metadata.specs.declared.metadata_fault.MetadataFault.{MetadataF
 use Rattle.table_metadata.specs.declared.metadata_fault.MetadataFault.TheVariants as fault
 use Rattle.table_metadata.specs.declared.properties.Properties.{Properties}
 use Rattle.plain_types.specs.Digits.{whole_number}
-use Rattle.table_metadata.specs.Keys.{text_at}
+use Rattle.iceberg_schema.specs.Keys.{text_at}
 use Rattle.plain_types.specs.Steps.{◌>>=◌, or_fault, by_option}
 
 -- the property's text

@@ -10,7 +10,7 @@ use Rattle.table_metadata.specs.declared.metadata_fault.MetadataFault.{MetadataF
 use Rattle.table_metadata.specs.declared.metadata_fault.MetadataFault.TheVariants as fault
 use Rattle.table_metadata.specs.declared.references.RefItem.{RefItem}
 use Rattle.table_metadata.specs.declared.snapshots.Snapshot.{Snapshot}
-use Rattle.table_metadata.specs.Keys.{long_at, text_at, members_at}
+use Rattle.iceberg_schema.specs.Keys.{long_at, text_at, members_at}
 use Rattle.table_metadata.specs.TableKeys.{shaped}
 use Rattle.plain_types.specs.Steps.{◌>>=◌, fault_if, by_option}
 

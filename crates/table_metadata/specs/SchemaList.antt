@@ -8,9 +8,9 @@ use Rattle.row_values.specs.declared.schema.TableSchema.{TableSchema}
 use Rattle.row_values.specs.declared.partition.Spec.{Spec}
 use Rattle.table_metadata.specs.declared.metadata_fault.MetadataFault.{MetadataFault}
 use Rattle.table_metadata.specs.declared.metadata_fault.MetadataFault.TheVariants as fault
-use Rattle.table_metadata.specs.Keys.{items_at}
-use Rattle.table_metadata.specs.SchemaJson.{table_schema_of}
-use Rattle.table_metadata.specs.SpecJson.{spec_of}
+use Rattle.iceberg_schema.specs.Keys.{items_at}
+use Rattle.iceberg_schema.specs.SchemaJson.{table_schema_of}
+use Rattle.iceberg_schema.specs.SpecJson.{spec_of}
 use Rattle.table_metadata.specs.TableKeys.{shaped}
 use Rattle.plain_types.specs.Steps.{◌>>=◌, fault_as}
 

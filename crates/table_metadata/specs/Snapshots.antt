@@ -4,7 +4,7 @@ use Rattle.serde_json.specs.Data.{Data, Items, no_items, item}
 use Rattle.serde_json.specs.Find.{get, as_str, as_object}
 use Rattle.table_metadata.specs.declared.metadata_fault.MetadataFault.{MetadataFault}
 use Rattle.table_metadata.specs.declared.snapshots.Snapshot.{Snapshot}
-use Rattle.table_metadata.specs.Keys.{long_at, text_at, items_at, long_of, in_int}
+use Rattle.iceberg_schema.specs.Keys.{long_at, text_at, items_at, long_of, in_int}
 use Rattle.table_metadata.specs.TableKeys.{shaped}
 use Rattle.plain_types.specs.Steps.{◌>>=◌, by_option}
 

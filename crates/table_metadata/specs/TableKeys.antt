@@ -11,7 +11,7 @@ use Rattle.table_metadata.specs.declared.metadata_fault.MetadataFault.{MetadataF
 use Rattle.table_metadata.specs.declared.metadata_fault.MetadataFault.TheVariants as fault
 use Rattle.table_metadata.specs.declared.table_keys.PlainKeys.{PlainKeys}
 use Rattle.table_metadata.specs.declared.table_keys.CurrentIds.{CurrentIds}
-use Rattle.table_metadata.specs.Keys.{long_at, int_at, text_at, items_at, long_of, whole_of, has_id, has_twice, all_objects}
+use Rattle.iceberg_schema.specs.Keys.{long_at, int_at, text_at, items_at, long_of, whole_of, has_id, has_twice, all_objects}
 use Rattle.plain_types.specs.Steps.{◌>>=◌, or_fault, fault_if, by_option}
 
 abbrev pub shaped : {A : Type 0} → List ℕ → Option A → Result A MetadataFault

@@ -7,33 +7,25 @@
 //! whole together (`Coherent`).
 #![tactic(auto)]
 
+mod by_id;
 mod field_ids;
 mod floats;
-mod json;
-mod kind_text;
+mod laws;
 mod metadata;
 mod metadata_fault;
 mod missing_keys;
 mod properties;
 mod reading;
 mod references;
-mod schema_fault;
-mod schema_json;
 mod schema_list;
 mod snapshots;
-mod spec_fault;
-mod spec_json;
 mod table_keys;
-mod transform_text;
 
+pub use by_id::{schema_with, snapshot_with, spec_with};
+pub use laws::what_is_read_is_sound;
 pub use metadata::Metadata;
 pub use metadata_fault::MetadataFault;
 pub use properties::{Properties, WriteMode, read_table_properties};
 pub use reading::{read_json, read_metadata};
 pub use references::RefItem;
-pub use schema_fault::SchemaJsonFault;
-pub use schema_json::read_table_schema;
 pub use snapshots::Snapshot;
-pub use spec_fault::{SpecFault, TransformFault};
-pub use spec_json::read_spec;
-pub use transform_text::read_transform;

@@ -1,7 +1,7 @@
 ghost use Rattle.std.specs.Prelude.{◌≡◌};
 ghost use Rattle.table_metadata.specs.declared.metadata_fault.MetadataFault.TheVariants.{Memory};
 
-use crate::{SchemaJsonFault, SpecFault};
+use iceberg_schema::{SchemaJsonFault, SpecFault};
 use row_values::Text;
 use std::alloc::{AllocError, AllocFailed};
 

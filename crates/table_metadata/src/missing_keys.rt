@@ -1,10 +1,22 @@
 //! Whether each needed key stands, and the format version is 2.
 ghost use Rattle.std.specs.Prelude.{◌≡◌, ◌≢◌, IfOk, IfErr, Ok, Err};
 ghost use Rattle.serde_json.specs.View.{view, items_view, members_view};
-ghost use Rattle.table_metadata.specs.MissingKeys.{needs, version_fits, table_keys_stand, snapshot_keys_stand, snapshots_stand, ref_keys_stand, refs_stand, listed_snapshots_stand, listed_refs_stand, keys_stand};
+ghost use Rattle.table_metadata.specs.MissingKeys.{
+  needs,
+  version_fits,
+  table_keys_stand,
+  snapshot_keys_stand,
+  snapshots_stand,
+  ref_keys_stand,
+  refs_stand,
+  listed_snapshots_stand,
+  listed_refs_stand,
+  keys_stand,
+};
 
 use crate::MetadataFault;
-use crate::json::{items_at, members_at, whole_of};
+use crate::table_keys::version_of;
+use iceberg_schema::{items_at, members_at};
 use row_values::Text;
 use serde_json::{Map, Value};
 use std::alloc::Global;
@@ -36,7 +48,7 @@ fn needs(alloc: Global, json: &Value, key: &str) -> Result<(), MetadataFault>
 fn version_fits(json: &Value) -> Result<(), MetadataFault>
     ensures { result ≡ version_fits (view json.now) }
 {
-    match json.get("format-version").and_then(whole_of) {
+    match version_of(json) {
         Some(version) => {
             if version == 2 {
                 Ok(())

@@ -5,8 +5,8 @@ ghost use Rattle.table_metadata.specs.TableProperties.{table_properties_of};
 ghost use Rattle.table_metadata.specs.Properties.{property_at, is_second, reads_on, is_snapshot_level, retries_of, least_to_merge_of, properties_of};
 
 use crate::MetadataFault;
-use crate::json::text_at;
 use crate::table_keys::properties_shape;
+use iceberg_schema::text_at;
 use plain_types::digits::whole_number;
 use row_values::Text;
 use serde_json::Value;

@@ -1,11 +1,27 @@
 //! The branches and tags of a table's metadata.
 ghost use Rattle.std.specs.Prelude.{◌≡◌, ◌≢◌, ◌≤◌, [], length, IfOk, IfErr, Ok, Err};
 ghost use Rattle.serde_json.specs.View.{view, members_view};
-ghost use Rattle.table_metadata.specs.References.{is_tag_type, ref_of, refs_from, listed_refs_of, is_main, lists_main, is_before_main, before_main, with_main, all_refs, has_snapshot, is_current, holds, all_hold, refs_of};
+ghost use Rattle.table_metadata.specs.References.{
+  is_tag_type,
+  ref_of,
+  refs_from,
+  listed_refs_of,
+  is_main,
+  lists_main,
+  is_before_main,
+  before_main,
+  with_main,
+  all_refs,
+  has_snapshot,
+  is_current,
+  holds,
+  all_hold,
+  refs_of,
+};
 
-use crate::json::members_at;
 use crate::table_keys::{shape, shaped_long, shaped_text};
 use crate::{MetadataFault, Snapshot};
+use iceberg_schema::members_at;
 use row_values::{List, Text};
 use serde_json::{Map, Value};
 use std::alloc::{AllocError, Global};

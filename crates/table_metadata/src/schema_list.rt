@@ -3,11 +3,9 @@ ghost use Rattle.std.specs.Prelude.{◌≡◌, ◌≢◌, [], option_map, IfOk, 
 ghost use Rattle.serde_json.specs.View.{view, items_view};
 ghost use Rattle.table_metadata.specs.SchemaList.{schemas_from, schemas_of, columns_with, specs_from, specs_of};
 
-use crate::json::items_at;
-use crate::schema_json::read_table_schema;
-use crate::spec_json::read_spec;
+use crate::MetadataFault;
 use crate::table_keys::shape;
-use crate::{MetadataFault, SchemaJsonFault, SpecFault};
+use iceberg_schema::{SchemaJsonFault, SpecFault, items_at, read_spec, read_table_schema};
 use row_values::{List, Spec, TableSchema};
 use serde_json::Value;
 use std::alloc::Global;

@@ -1,11 +1,12 @@
 //! The snapshots of a table's metadata.
-ghost use Rattle.std.specs.Prelude.{◌≡◌, ◌≢◌, [], IfOk, IfErr, Ok, Err};
+ghost use Rattle.std.specs.Prelude.{◌≡◌, ◌≢◌, [], option_and_then, IfOk, IfErr, Ok, Err};
 ghost use Rattle.serde_json.specs.View.{view, items_view};
+ghost use Rattle.iceberg_schema.specs.Keys.{in_int, long_of};
 ghost use Rattle.table_metadata.specs.Snapshots.{optional_long, optional_int, operation_in, operation_of, snapshot_of, snapshots_from, snapshots_of};
 
 use crate::MetadataFault;
-use crate::json::{in_int, items_at};
 use crate::table_keys::{shape, shaped_long, shaped_text};
+use iceberg_schema::{in_int, items_at};
 use row_values::{List, Text};
 use serde_json::Value;
 use std::alloc::Global;
@@ -86,6 +87,16 @@ fn optional_long(alloc: Global, json: &Value, key: &str) -> Result<Option<i64>, 
     }
 }
 
+// The number, where it is one of 32 bits.
+fn int_of(json: &Value) -> Option<i32>
+    ensures { result ≡ option_and_then in_int (long_of (view json.now)) }
+{
+    match json.as_i64() {
+        Some(number) => in_int(number),
+        None => None,
+    }
+}
+
 fn optional_int(alloc: Global, json: &Value, key: &str) -> Result<Option<i32>, MetadataFault>
     ensures ok { IfOk result (λ n. optional_int key.now (view json.now) ≡ Ok n) }
     ensures err { IfErr result (λ f. f ≢ MetadataFault.Memory → optional_int key.now (view json.now) ≡ Err f) }
@@ -93,7 +104,7 @@ fn optional_int(alloc: Global, json: &Value, key: &str) -> Result<Option<i32>, M
     let Some(value) = json.get(key) else {
         return Ok(None);
     };
-    match value.as_i64().and_then(in_int) {
+    match int_of(value) {
         Some(number) => Ok(Some(number)),
         None => Err(shape(alloc, key)),
     }

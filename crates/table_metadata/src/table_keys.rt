@@ -1,11 +1,30 @@
 //! The form of what stands under the keys of a table's metadata.
-ghost use Rattle.std.specs.Prelude.{◌≡◌, ◌≢◌, codes, IfOk, IfErr, Ok, Err};
+ghost use Rattle.std.specs.Prelude.{◌≡◌, ◌≢◌, codes, option_and_then, IfOk, IfErr, Ok, Err};
+ghost use Rattle.serde_json.specs.Find.{get};
 ghost use Rattle.serde_json.specs.View.{view, items_view, members_view};
-ghost use Rattle.table_metadata.specs.Keys.{long_at, int_at, text_at, items_at};
-ghost use Rattle.table_metadata.specs.TableKeys.{shaped, is_uuid, plain_keys_of, distinct_items, listed_id, current_ids_of, all_texts, all_members_objects, properties_shape, current_snapshot_of, are_snapshots, snapshots_shape, log_shape, refs_shape, optional_keys_of};
+ghost use Rattle.iceberg_schema.specs.Keys.{long_at, int_at, text_at, items_at, whole_of};
+ghost use Rattle.table_metadata.specs.TableKeys.{
+  shaped,
+  is_uuid,
+  plain_keys_of,
+  distinct_items,
+  listed_id,
+  current_ids_of,
+  all_texts,
+  all_members_objects,
+  properties_shape,
+  current_snapshot_of,
+  are_snapshots,
+  snapshots_shape,
+  log_shape,
+  refs_shape,
+  optional_keys_of,
+};
 
 use crate::MetadataFault;
-use crate::json::{all_objects, has_id, has_twice, int_at, items_at, long_at, text_at, whole_of};
+use iceberg_schema::{
+    all_objects, has_id, has_twice, int_at, items_at, long_at, text_at, whole_of,
+};
 use row_values::Text;
 use serde_json::{Map, Value};
 use std::alloc::Global;
@@ -28,12 +47,22 @@ pub(crate) struct CurrentIds {
     pub last_partition: i32,
 }
 
+/// The version of the format, where it is a whole number.
+pub(crate) fn version_of(json: &Value) -> Option<i128>
+    ensures { result ≡ option_and_then whole_of (get (codes "format-version") (view json.now)) }
+{
+    match json.get("format-version") {
+        Some(number) => whole_of(number),
+        None => None,
+    }
+}
+
 #[tactic(auto, unfolding(crate::specs::TableKeys::plain_keys_of))]
 pub(crate) fn read_plain_keys(alloc: Global, json: &Value) -> Result<PlainKeys, MetadataFault>
     ensures ok { IfOk result (λ keys. plain_keys_of (view json.now) ≡ Ok keys) }
     ensures err { IfErr result (λ f. f ≢ MetadataFault.Memory → plain_keys_of (view json.now) ≡ Err f) }
 {
-    if json.get("format-version").and_then(whole_of).is_none() {
+    if version_of(json).is_none() {
         return Err(shape(alloc, "format-version"));
     }
     let uuid = shaped_text(alloc, json, "table-uuid")?;

@@ -8,7 +8,7 @@ use Rattle.std.specs.Cmp.Lexicographic.{slice_cmp, pointwise}
 use Rattle.std.proofs.lemmas.Bool.{ne_eqb, eqb-true}
 use Rattle.std.proofs.lemmas.Bool.Decides.{nat_tests}
 use Rattle.std.proofs.lemmas.Map.Text.{is_eq-slice_cmp}
-use Rattle.plain_types.proofs.ByteOrderLaws.{Tells-texts}
+use Rattle.plain_types.proofs.CallerLemmas.{Tells-texts}
 use Rattle.store_core.specs.Files.{Files, names_with}
 use Rattle.table_names.specs.Versions.{version_prefix, version_name, version_of_name, greatest_version, some_version, version_of}
 use Rattle.table_names.proofs.VersionNames.{at_least, below_by, is_greatest, is_of, starting}
@@ -32,19 +32,26 @@ record Attained (prefix : List ℕ) (names : List (List ℕ)) (greatest : ℕ) :
   among : list_any (eq_by_cmp (slice_cmp nat_cmp) name) names ≡ true
   value : version_of_name prefix name ≡ greatest
 
-further : (prefix name : List ℕ) (names : List (List ℕ)) (lesser greatest : ℕ) → lesser ≡ greatest → Attained prefix names lesser → Attained prefix (name ∷ names) greatest
+further : (prefix name : List ℕ) (names : List (List ℕ)) (lesser greatest : ℕ) → lesser ≡ greatest → Attained prefix names lesser
+    → Attained prefix (name ∷ names) greatest
 further prefix name names lesser greatest is found = record { name = found.name; begins = found.begins; among = later_too (eq_by_cmp (slice_cmp nat_cmp) found.name name) (list_any (eq_by_cmp (slice_cmp nat_cmp) found.name) names) found.among; value = found.value ∙ is }
 
-by_value : (prefix name : List ℕ) (names : List (List ℕ)) (rest : ℕ) (b : Bool) → nat_lt (version_of_name prefix name) rest ≡ b → starting prefix name ≡ true → (0 < rest → Attained prefix names rest) → Attained prefix (name ∷ names) (max (version_of_name prefix name) rest)
+by_value : (prefix name : List ℕ) (names : List (List ℕ)) (rest : ℕ) (b : Bool) → nat_lt (version_of_name prefix name) rest ≡ b
+    → starting prefix name ≡ true → (0 < rest → Attained prefix names rest)
+    → Attained prefix (name ∷ names) (max (version_of_name prefix name) rest)
 by_value prefix name names rest true less begins found = further prefix name names rest (max (version_of_name prefix name) rest) (grind (arith, nat_tests)) (found (grind (arith, nat_tests)))
 by_value prefix name names rest false less begins found = record { name = name; begins = begins; among = here_too (eq_by_cmp (slice_cmp nat_cmp) name name) (list_any (eq_by_cmp (slice_cmp nat_cmp) name) names) (is_itself name); value = grind (arith, nat_tests) }
 
-by_front : (prefix name : List ℕ) (names rest : List (List ℕ)) (b : Bool) → starting prefix name ≡ b → (0 < greatest_version prefix rest → Attained prefix names (greatest_version prefix rest)) → 0 < greatest_version prefix (cond b (name ∷ rest) rest) → Attained prefix (name ∷ names) (greatest_version prefix (cond b (name ∷ rest) rest))
+by_front : (prefix name : List ℕ) (names rest : List (List ℕ)) (b : Bool) → starting prefix name ≡ b
+    → (0 < greatest_version prefix rest → Attained prefix names (greatest_version prefix rest))
+    → 0 < greatest_version prefix (cond b (name ∷ rest) rest)
+    → Attained prefix (name ∷ names) (greatest_version prefix (cond b (name ∷ rest) rest))
 unfolding greatest_version
 by_front prefix name names rest true begins found above = by_value prefix name names (greatest_version prefix rest) (nat_lt (version_of_name prefix name) (greatest_version prefix rest)) refl begins found
 by_front prefix name names rest false begins found above = further prefix name names (greatest_version prefix rest) (greatest_version prefix rest) refl (found above)
 
-attained : (prefix : List ℕ) (names : List (List ℕ)) → 0 < greatest_version prefix (filter (starting prefix) names) → Attained prefix names (greatest_version prefix (filter (starting prefix) names))
+attained : (prefix : List ℕ) (names : List (List ℕ)) → 0 < greatest_version prefix (filter (starting prefix) names)
+    → Attained prefix names (greatest_version prefix (filter (starting prefix) names))
 unfolding greatest_version
 attained prefix [] some = absurd (omega arith)
 attained prefix (name ∷ names) some = by_front prefix name names (filter (starting prefix) names) (starting prefix name) refl (attained prefix names) some
@@ -58,7 +65,8 @@ abbrev is_there : Files → List ℕ → Bool
 is_there files name = map.contains_key files name
 
 -- where no name's version is above this one
-within : (table : List ℕ) (files : Files) (m : ℕ) → ((name : List ℕ) → starting (version_prefix table) name ≡ true → is_there files name ≡ true → version_of_name (version_prefix table) name ≤ m) → greatest_in table files ≤ m
+within : (table : List ℕ) (files : Files) (m : ℕ) → ((name : List ℕ) → starting (version_prefix table) name ≡ true
+    → is_there files name ≡ true → version_of_name (version_prefix table) name ≤ m) → greatest_in table files ≤ m
 within table files m below = by_size (nat_lt 0 (greatest_in table files)) refl where
   by_size : (b : Bool) → nat_lt 0 (greatest_in table files) ≡ b → greatest_in table files ≤ m
   by_size false is = grind (arith, nat_tests)
@@ -67,7 +75,8 @@ within table files m below = by_size (nat_lt 0 (greatest_in table files)) refl w
       subst (λ n. n ≤ m) found.value (below found.name found.begins (contains_key-keys files found.name ∙ found.among))
 
 -- each name's version
-value_below : (table : List ℕ) (files : Files) (name : List ℕ) → starting (version_prefix table) name ≡ true → is_there files name ≡ true → version_of_name (version_prefix table) name ≤ greatest_in table files
+value_below : (table : List ℕ) (files : Files) (name : List ℕ) → starting (version_prefix table) name ≡ true
+    → is_there files name ≡ true → version_of_name (version_prefix table) name ≤ greatest_in table files
 value_below table files name begins there = at_least (version_prefix table) name (version_of_name (version_prefix table) name) begins refl (map.keys files) (sym (contains_key-keys files name) ∙ there)
 
 -- ---- files that change
@@ -76,20 +85,23 @@ abbrev value_of : List ℕ → List ℕ → ℕ
 value_of table name = version_of_name (version_prefix table) name
 
 -- a name of a version that is there now was there before
-value_stays : (table : List ℕ) (old new : Files) (name : List ℕ) → (0 < value_of table name → map.get new name ≡ map.get old name) → starting (version_prefix table) name ≡ true → is_there new name ≡ true → value_of table name ≤ greatest_in table old
+value_stays : (table : List ℕ) (old new : Files) (name : List ℕ) → (0 < value_of table name → map.get new name ≡ map.get old name)
+    → starting (version_prefix table) name ≡ true → is_there new name ≡ true → value_of table name ≤ greatest_in table old
 value_stays table old new name same begins there = by_value_of (nat_lt 0 (value_of table name)) refl where
   by_value_of : (b : Bool) → nat_lt 0 (value_of table name) ≡ b → value_of table name ≤ greatest_in table old
   by_value_of false is = grind (arith, nat_tests)
   by_value_of true is = value_below table old name begins (ap is_some (sym (same (grind (arith, nat_tests)))) ∙ there)
 
-not_above : (table : List ℕ) (old new : Files) → ((name : List ℕ) → 0 < value_of table name → map.get new name ≡ map.get old name) → greatest_in table new ≤ greatest_in table old
+not_above : (table : List ℕ) (old new : Files) → ((name : List ℕ) → 0 < value_of table name → map.get new name ≡ map.get old name)
+    → greatest_in table new ≤ greatest_in table old
 not_above table old new same = within table new (greatest_in table old) (λ name begins there. value_stays table old new name (same name) begins there)
 
 between : (a b : ℕ) → a ≤ b → b ≤ a → a ≡ b
 between a b below above = omega arith
 
 -- where the names of versions are as they were
-pub same_version : (table : List ℕ) (old new : Files) → ((name : List ℕ) → 0 < value_of table name → map.get new name ≡ map.get old name) → version_of table new ≡ version_of table old
+pub same_version : (table : List ℕ) (old new : Files) → ((name : List ℕ) → 0 < value_of table name
+    → map.get new name ≡ map.get old name) → version_of table new ≡ version_of table old
 same_version table old new same =
     ap some_version (between (greatest_in table new) (greatest_in table old) (not_above table old new same) (not_above table new old (λ name above. sym (same name above))))
 
@@ -97,7 +109,8 @@ is_some_version : (n : ℕ) → 0 < n → some_version n ≡ Some n
 is_some_version n above = ap (λ b. cond b None (Some n)) (ne_eqb n 0 (λ e. omega arith))
 
 -- where the next version is there too
-pub next_version : (table : List ℕ) (old new : Files) (current : ℕ) (bytes : List ℕ) → version_of table old ≡ Some current → current + 1 < 2 ^ 32 → map.get new (version_name table (current + 1)) ≡ Some bytes
+pub next_version : (table : List ℕ) (old new : Files) (current : ℕ) (bytes : List ℕ) → version_of table old ≡ Some current
+    → current + 1 < 2 ^ 32 → map.get new (version_name table (current + 1)) ≡ Some bytes
     → ((name : List ℕ) → 0 < value_of table name → (name ≡ version_name table (current + 1) → ⊥) → map.get new name ≡ map.get old name) → version_of table new ≡ Some (current + 1)
 next_version table old new current bytes is small there same =
     ap some_version (between (greatest_in table new) next (within table new next all) (below_by table new next (omega arith) small (ap is_some there)))

@@ -17,7 +17,7 @@ use Rattle.std.proofs.lemmas.Str.{digit_value_digit}
 use Rattle.std.proofs.lemmas.Str.Parse.{digit_from_value}
 use Rattle.std.proofs.lemmas.Bool.Decides.{nat_tests}
 use Rattle.plain_types.specs.Digits.{is_digit, with_digit, digits_from, number_at, after_text, has_leading_zero}
-use Rattle.plain_types.proofs.ByteOrderLaws.{Tells-texts}
+use Rattle.plain_types.proofs.CallerLemmas.{Tells-texts}
 use Rattle.plain_types.specs.Steps.{by_option}
 use Rattle.store_core.specs.Files.{Files, names_with}
 use Rattle.table_names.specs.Versions.{version_prefix, version_name, version_from, version_behind, version_of_name, greatest_version, some_version, version_of}
@@ -57,7 +57,8 @@ no_zero : (c : ℕ) (cs : List ℕ) → 48 < c → has_leading_zero (c ∷ cs) �
 no_zero c [] above = refl
 no_zero c (d ∷ ds) above = ne_eqb c 48 (λ e. omega arith)
 
-is_behind : (n : ℕ) (ds : List ℕ) → AllDigits 10 ds → 0 < length ds → 48 < get_or ds 0 0 → digits_value 10 ds ≡ n → n < 2 ^ 32 → version_behind (ds ++ ending) ≡ n
+is_behind : (n : ℕ) (ds : List ℕ) → AllDigits 10 ds → 0 < length ds → 48 < get_or ds 0 0 → digits_value 10 ds ≡ n → n < 2 ^ 32
+    → version_behind (ds ++ ending) ≡ n
 unfolding version_behind number_at
 is_behind n [] digits some first is small = absurd (omega arith)
 is_behind n (d ∷ ds) digits some first is small =
@@ -115,17 +116,23 @@ same_name q name Equal is e = slice_cmp-IsAntisymmetric nat_cmp-IsAntisymmetric 
 same_name q name Less is e = absurd cc
 same_name q name Greater is e = absurd cc
 
-grown : (prefix name : List ℕ) (names : List (List ℕ)) (b : Bool) (n : ℕ) → n ≤ greatest_version prefix names → n ≤ greatest_version prefix (cond b (name ∷ names) names)
+grown : (prefix name : List ℕ) (names : List (List ℕ)) (b : Bool) (n : ℕ) → n ≤ greatest_version prefix names
+    → n ≤ greatest_version prefix (cond b (name ∷ names) names)
 unfolding greatest_version
 grown prefix name names true n below = omega arith
 grown prefix name names false n below = below
 
-first_of : (prefix name : List ℕ) (names : List (List ℕ)) (b : Bool) (n : ℕ) → b ≡ true → version_of_name prefix name ≡ n → n ≤ greatest_version prefix (cond b (name ∷ names) names)
+first_of : (prefix name : List ℕ) (names : List (List ℕ)) (b : Bool) (n : ℕ) → b ≡ true → version_of_name prefix name ≡ n
+    → n ≤ greatest_version prefix (cond b (name ∷ names) names)
 unfolding greatest_version
 first_of prefix name names true n e is = omega arith
 first_of prefix name names false n e is = absurd cc
 
-found_by : (prefix q : List ℕ) (n : ℕ) → starting prefix q ≡ true → version_of_name prefix q ≡ n → (name : List ℕ) (names : List (List ℕ)) (b : Bool) → is_eq (slice_cmp nat_cmp q name) ≡ b → (b ≡ false → n ≤ greatest_version prefix (filter (starting prefix) names)) → n ≤ greatest_version prefix (cond (starting prefix name) (name ∷ filter (starting prefix) names) (filter (starting prefix) names))
+found_by : (prefix q : List ℕ) (n : ℕ) → starting prefix q ≡ true → version_of_name prefix q ≡ n
+    → (name : List ℕ) (names : List (List ℕ)) (b : Bool) → is_eq (slice_cmp nat_cmp q name) ≡ b
+    → (b ≡ false → n ≤ greatest_version prefix (filter (starting prefix) names))
+    → n ≤ greatest_version prefix (cond (starting prefix name) (name ∷ filter (starting prefix) names)
+    (filter (starting prefix) names))
 found_by prefix q n starts is name names true here later =
     let same : q ≡ name = same_name q name (slice_cmp nat_cmp q name) refl here in
     first_of prefix name (filter (starting prefix) names) (starting prefix name) n (ap (starting prefix) (sym same) ∙ starts) (ap (version_of_name prefix) (sym same) ∙ is)
@@ -135,13 +142,16 @@ any_later : (b c : Bool) → b || c ≡ true → b ≡ false → c ≡ true
 any_later true c some not_here = absurd cc
 any_later false c some not_here = some
 
-pub at_least : (prefix q : List ℕ) (n : ℕ) → starting prefix q ≡ true → version_of_name prefix q ≡ n → (names : List (List ℕ)) → list_any (eq_by_cmp (slice_cmp nat_cmp) q) names ≡ true → n ≤ greatest_version prefix (filter (starting prefix) names)
+pub at_least : (prefix q : List ℕ) (n : ℕ) → starting prefix q ≡ true → version_of_name prefix q ≡ n → (names : List (List ℕ))
+    → list_any (eq_by_cmp (slice_cmp nat_cmp) q) names ≡ true → n ≤ greatest_version prefix (filter (starting prefix) names)
 at_least prefix q n starts is [] some = absurd cc
 at_least prefix q n starts is (name ∷ names) some =
     found_by prefix q n starts is name names (is_eq (slice_cmp nat_cmp q name)) refl
     (λ not_here. at_least prefix q n starts is names (any_later (is_eq (slice_cmp nat_cmp q name)) (list_any (eq_by_cmp (slice_cmp nat_cmp) q) names) some not_here))
 
-pub below_by : (table : List ℕ) (files : Files) (n : ℕ) → 0 < n → n < 2 ^ 32 → map.contains_key files (version_name table n) ≡ true → n ≤ greatest_version (version_prefix table) (names_with (version_prefix table) files)
+pub below_by : (table : List ℕ) (files : Files) (n : ℕ) → 0 < n → n < 2 ^ 32
+    → map.contains_key files (version_name table n) ≡ true
+    → n ≤ greatest_version (version_prefix table) (names_with (version_prefix table) files)
 below_by table files n above small is =
     at_least (version_prefix table) (version_name table n) n (begins_named table n) (is_of table n above small) (map.keys files) (sym (contains_key-keys files (version_name table n)) ∙ is)
 
@@ -158,14 +168,16 @@ missing_by : (o : Option (List ℕ)) → (is_some o ≡ true → ⊥) → o ≡ 
 missing_by None none = refl
 missing_by (Some bytes) none = absurd (none refl)
 
-pub above_is_missing : (table : List ℕ) (files : Files) (current n : ℕ) → version_of table files ≡ Some current → current < n → n < 2 ^ 32 → map.get files (version_name table n) ≡ None
+pub above_is_missing : (table : List ℕ) (files : Files) (current n : ℕ) → version_of table files ≡ Some current → current < n
+    → n < 2 ^ 32 → map.get files (version_name table n) ≡ None
 above_is_missing table files current n is above small =
     let prefix = version_prefix table in
     let greatest = greatest_version prefix (names_with prefix files) in
     let same : greatest ≡ current = is_greatest greatest current (greatest == 0) refl is in
     missing_by (map.get files (version_name table n)) (λ there. let below = below_by table files n (omega arith) small there in omega arith)
 
-pub all_are_missing : (table : List ℕ) (files : Files) (n : ℕ) → version_of table files ≡ None → 0 < n → n < 2 ^ 32 → map.get files (version_name table n) ≡ None
+pub all_are_missing : (table : List ℕ) (files : Files) (n : ℕ) → version_of table files ≡ None → 0 < n → n < 2 ^ 32
+    → map.get files (version_name table n) ≡ None
 all_are_missing table files n is above small =
     let prefix = version_prefix table in
     let greatest = greatest_version prefix (names_with prefix files) in

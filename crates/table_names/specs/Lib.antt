@@ -1,1 +1,6 @@
+pub mod FileNames
+pub mod Marks
+pub mod Paths
+pub mod Runs
+pub mod Sessions
 pub mod Versions

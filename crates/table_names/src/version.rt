@@ -2,7 +2,21 @@ ghost use Rattle.std.specs.Prelude.{◌≡◌, ◌++◌, string_bytes, IfOk};
 ghost use Rattle.std.specs.Option.{ForSome};
 ghost use Rattle.plain_types.specs.Causes.{HasCause};
 ghost use Rattle.store_core.specs.Answers.{unsettled_after};
-ghost use Rattle.table_names.specs.Versions.{compressed_from, compressed_of, first_compressed, greatest_version, is_compressed, is_compressed_behind, some_version, version_behind, version_from, version_name, version_of, version_of_name, version_prefix};
+ghost use Rattle.table_names.specs.Versions.{
+  compressed_from,
+  compressed_of,
+  first_compressed,
+  greatest_version,
+  is_compressed,
+  is_compressed_behind,
+  some_version,
+  version_behind,
+  version_from,
+  version_name,
+  version_of,
+  version_of_name,
+  version_prefix,
+};
 
 use plain_types::digits::{after_text, has_leading_zero, number_at};
 use std::alloc::{AllocError, Global};

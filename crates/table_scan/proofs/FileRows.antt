@@ -37,15 +37,18 @@ module _ (columns : List Column) where
       split (take at files) (file ∷ drop at files) ∙ both (are (take at files)) (are (file ∷ drop at files)) parted.0
       (split (file ∷ []) (drop at files) ∙ both (are (file ∷ [])) (are (drop at files)) one parted.1)
 
-  with_any : (file : ScannedFile) (files : List ScannedFile) (hit : Bool) → are (file ∷ []) ≡ true → are files ≡ true → are (if hit then with_file file files else files) ≡ true
+  with_any : (file : ScannedFile) (files : List ScannedFile) (hit : Bool) → are (file ∷ []) ≡ true → are files ≡ true
+      → are (if hit then with_file file files else files) ≡ true
   with_any file files true one h = with_one file files one h
   with_any file files false one h = h
 
-pub and_current : (parts : Parts) (file : ScannedFile) (files : List ScannedFile) → AreCurrentFiles parts (file ∷ []) → AreCurrentFiles parts files → AreCurrentFiles parts (with_hit file files)
+pub and_current : (parts : Parts) (file : ScannedFile) (files : List ScannedFile) → AreCurrentFiles parts (file ∷ [])
+    → AreCurrentFiles parts files → AreCurrentFiles parts (with_hit file files)
 unfolding with_hit
 and_current parts file files one h schema is = with_any schema.columns file files (has_hit file) (one schema is) (h schema is)
 
-pub file_is_current : (parts : Parts) (pred : Pred) (entry : Entry) (rows : List (List Value)) (live : List LiveRow) → AreCurrentRows parts rows → live ≡ live_rows pred rows → AreCurrentFiles parts (record { entry = entry; rows = live } ∷ [])
+pub file_is_current : (parts : Parts) (pred : Pred) (entry : Entry) (rows : List (List Value)) (live : List LiveRow)
+    → AreCurrentRows parts rows → live ≡ live_rows pred rows → AreCurrentFiles parts (record { entry = entry; rows = live } ∷ [])
 file_is_current parts pred entry rows live (found, current, are_rows) same schema is =
     let one : found ≡ schema = cc in
     ap (list_all (is_row schema.columns)) (append-nil (map row_of live) ∙ ap (map row_of) same ∙ rows_stay pred rows)

@@ -5,12 +5,11 @@ use Rattle.std.proofs.lemmas.Grind.{flat_map-append}
 use Rattle.std.proofs.lemmas.List.{map-append, take-append-drop}
 use Rattle.plain_types.specs.Bags.{In, SameBag, total}
 use Rattle.plain_types.specs.Steps.{◌>>=◌}
-use Rattle.plain_types.proofs.BagLaws.{In-filter, In-flat_map, In-map, SameBag-flat_map, total-append, total-filter}
+use Rattle.plain_types.proofs.CallerLemmas.{In-filter, In-flat_map, In-map, SameBag-flat_map, total-append, total-filter, two_steps}
 use Rattle.row_values.specs.declared.value.Value.{Value}
 use Rattle.sql_predicates.specs.declared.pred.Pred.{Pred}
 use Rattle.sql_statements.specs.Clauses.{holds_on}
 use Rattle.store_core.specs.Files.{Files}
-use Rattle.avro_rows.proofs.Stepwise.{two_steps}
 use Rattle.manifest_files.specs.declared.entry.Entry.{Entry}
 use Rattle.table_metadata.specs.Metadata.{Parts}
 use Rattle.table_state.specs.declared.load_fault.LoadFault.{LoadFault}
@@ -41,7 +40,9 @@ module _ (weight : ScannedFile → ℕ) where
   halves [] = refl
   halves (file ∷ all) = by (has_hit file) (filter has_hit all) (filter (λ file. not (has_hit file)) all) (halves all)
     where
-      by : (b : Bool) (hits others : List ScannedFile) → total weight all ≡ total weight hits + total weight others → weight file + total weight all ≡ total weight (cond b (file ∷ hits) hits) + total weight (cond (not b) (file ∷ others) others)
+      by : (b : Bool) (hits others : List ScannedFile) → total weight all ≡ total weight hits + total weight others
+          → weight file + total weight all ≡ total weight (cond b (file ∷ hits) hits) + total weight (cond (not b)
+          (file ∷ others) others)
       by true hits others h = omega arith
       by false hits others h = omega arith
 
@@ -61,14 +62,17 @@ module _ (table : List ℕ) (parts : Parts) (pred : Pred) (files : Files) where
   AreFilesOf [] (file ∷ read) = ⊥
   AreFilesOf (entry ∷ entries) [] = ⊥
 
-  file_is : (entry : Entry) (file : ScannedFile) → file_at table parts pred entry files ≡ Ok file → (rows : List (List Value)) × (data_file_at table parts entry.path files ≡ Ok rows) × (file ≡ with_rows pred entry rows)
+  file_is : (entry : Entry) (file : ScannedFile) → file_at table parts pred entry files ≡ Ok file → (rows : List (List Value))
+      × (data_file_at table parts entry.path files ≡ Ok rows) × (file ≡ with_rows pred entry rows)
   unfolding file_at
   file_is entry file e =
       let s = two_steps (data_file_at table parts entry.path files) (λ rows. Ok (with_rows pred entry rows)) file e in
       let same : with_rows pred entry s.0 ≡ file = cc in
       (s.0, s.1, sym same)
 
-  read_in : (earlier : List ScannedFile) (entries : List Entry) (all : List ScannedFile) → files_at table parts pred earlier entries files ≡ Ok all → (read : List ScannedFile) × (all ≡ earlier ++ read) × AreFilesOf entries read
+  read_in : (earlier : List ScannedFile) (entries : List Entry) (all : List ScannedFile)
+      → files_at table parts pred earlier entries files ≡ Ok all → (read : List ScannedFile) × (all ≡ earlier ++ read)
+      × AreFilesOf entries read
   unfolding files_at
   read_in earlier [] all e =
       let same : earlier ≡ all = cc in
@@ -85,7 +89,8 @@ module _ (table : List ℕ) (parts : Parts) (pred : Pred) (files : Files) where
   of_entries (entry ∷ entries) (file ∷ read) ((rows, at, is), are) =
       ap (λ (f : ScannedFile). f.entry ∷ map entry_of read) is ∙ ap (λ more. entry ∷ more) (of_entries entries read are)
 
-  of_rows : (earlier : List (List Value)) (entries : List Entry) (read : List ScannedFile) → AreFilesOf entries read → data_rows table parts earlier entries files ≡ Ok (earlier ++ rows_in_all read)
+  of_rows : (earlier : List (List Value)) (entries : List Entry) (read : List ScannedFile) → AreFilesOf entries read
+      → data_rows table parts earlier entries files ≡ Ok (earlier ++ rows_in_all read)
   unfolding data_rows
   of_rows earlier [] [] are = ap Ok (sym (append-nil earlier))
   of_rows earlier [] (file ∷ read) are = absurd are
@@ -96,12 +101,14 @@ module _ (table : List ℕ) (parts : Parts) (pred : Pred) (files : Files) where
       ∙ of_rows (earlier ++ rows) entries read are
       ∙ ap Ok (append_assoc earlier rows (rows_in_all read) ∙ ap (λ (found : List (List Value)). earlier ++ (found ++ rows_in_all read)) (sym own))
 
-  file_missed : (entry : Entry) (rows : List (List Value)) (row : List Value) → list_any is_hit (live_rows pred rows) ≡ false → In row (map row_of (live_rows pred rows)) → holds_on pred row ≡ false
+  file_missed : (entry : Entry) (rows : List (List Value)) (row : List Value) → list_any is_hit (live_rows pred rows) ≡ false
+      → In row (map row_of (live_rows pred rows)) → holds_on pred row ≡ false
   file_missed entry rows row none there =
       let found = In-map row row_of (live_rows pred rows) there in
       ap (holds_on pred) found.2 ∙ missed pred rows found.0 none found.1
 
-  missed_in : (entries : List Entry) (read : List ScannedFile) → AreFilesOf entries read → (file : ScannedFile) → In file read → has_hit file ≡ false → (row : List Value) → In row (rows_in file) → holds_on pred row ≡ false
+  missed_in : (entries : List Entry) (read : List ScannedFile) → AreFilesOf entries read → (file : ScannedFile) → In file read
+      → has_hit file ≡ false → (row : List Value) → In row (rows_in file) → holds_on pred row ≡ false
   missed_in [] [] are file there none row within = absurd there
   missed_in [] (first ∷ read) are file there none row within = absurd are
   missed_in (entry ∷ entries) [] are file there none row within = absurd are
@@ -114,7 +121,8 @@ module _ (table : List ℕ) (parts : Parts) (pred : Pred) (files : Files) where
   not_true true e = absurd cc
   not_true false e = refl
 
-  pub is_parted : (entries : List Entry) (scanned : List ScannedFile) → scanned_at table parts pred entries files ≡ Ok scanned → IsParted table parts pred entries files scanned
+  pub is_parted : (entries : List Entry) (scanned : List ScannedFile) → scanned_at table parts pred entries files ≡ Ok scanned
+      → IsParted table parts pred entries files scanned
   is_parted entries scanned e =
       let s = two_steps (files_at table parts pred [] entries files) (λ all. Ok (in_path_order [] (filter has_hit all))) scanned e in
       let all = s.0 in

@@ -28,7 +28,8 @@ live_count pred rows = counted pred 0 rows
 abbrev live_at : Pred → ℕ → List Value → LiveRow
 live_at pred at row = record { position = at; row = row; hit = holds_on pred row }
 
-one_more : (pred : Pred) (at : ℕ) (rows : List (List Value)) (row : List Value) → rows_from pred at (rows ++ row ∷ []) ≡ rows_from pred at rows ++ live_at pred (at + length rows) row ∷ []
+one_more : (pred : Pred) (at : ℕ) (rows : List (List Value)) (row : List Value)
+    → rows_from pred at (rows ++ row ∷ []) ≡ rows_from pred at rows ++ live_at pred (at + length rows) row ∷ []
 one_more pred at [] row =
     let same : at ≡ at + 0 = omega arith in
     ap (λ n. live_at pred n row ∷ []) same
@@ -37,14 +38,18 @@ one_more pred at (first ∷ rows) row =
     ap (λ more. live_at pred at first ∷ more) (one_more pred (at + 1) rows row ∙ ap (λ n. rows_from pred (at + 1) rows ++ live_at pred n row ∷ []) same)
 
 -- one row more, at its position
-live_more : (pred : Pred) (rows : List (List Value)) (row : List Value) (position : ℕ) (hit : Bool) → position ≡ length rows → hit ≡ holds_on pred row → live_rows pred (rows ++ row ∷ []) ≡ live_rows pred rows ++ record { position = position; row = row; hit = hit } ∷ []
+live_more : (pred : Pred) (rows : List (List Value)) (row : List Value) (position : ℕ) (hit : Bool) → position ≡ length rows
+    → hit ≡ holds_on pred row
+    → live_rows pred (rows ++ row ∷ []) ≡ live_rows pred rows ++ record { position = position; row = row; hit = hit } ∷ []
 live_more pred rows row position hit at same =
     let place : 0 + length rows ≡ position = omega arith in
     one_more pred 0 rows row
     ∙ ap (λ n. live_rows pred rows ++ live_at pred n row ∷ []) place
     ∙ ap (λ (b : Bool). live_rows pred rows ++ record { position = position; row = row; hit = b } ∷ []) (sym same)
 
-pub pushed : (pred : Pred) (rows : List (List Value)) (row : List Value) (old new : List LiveRow) (position : ℕ) (hit : Bool) → new ≡ old ++ record { position = position; row = row; hit = hit } ∷ [] → old ≡ live_rows pred rows → position ≡ length rows → hit ≡ holds_on pred row → new ≡ live_rows pred (rows ++ row ∷ [])
+pub pushed : (pred : Pred) (rows : List (List Value)) (row : List Value) (old new : List LiveRow) (position : ℕ) (hit : Bool)
+    → new ≡ old ++ record { position = position; row = row; hit = hit } ∷ [] → old ≡ live_rows pred rows → position ≡ length rows
+    → hit ≡ holds_on pred row → new ≡ live_rows pred (rows ++ row ∷ [])
 pushed pred rows row old new position hit more live at same =
     more ∙ ap (λ (before : List LiveRow). before ++ record { position = position; row = row; hit = hit } ∷ []) live ∙ sym (live_more pred rows row position hit at same)
 
@@ -56,14 +61,16 @@ wide_row [] (v ∷ row) h = absurd cc
 wide_row (column ∷ columns) [] h = absurd cc
 wide_row (column ∷ columns) (v ∷ row) h = ap suc (wide_row columns row (and_parts _ _ h).1)
 
-each_within : (columns : List Column) (pred : Pred) (rows : List (List Value)) → pred_is_within (length columns) pred ≡ true → list_all (is_row columns) rows ≡ true → reads_within pred rows ≡ true
+each_within : (columns : List Column) (pred : Pred) (rows : List (List Value)) → pred_is_within (length columns) pred ≡ true
+    → list_all (is_row columns) rows ≡ true → reads_within pred rows ≡ true
 each_within columns pred [] within are = refl
 each_within columns pred (row ∷ rows) within are =
     let both = and_parts (is_row columns row) (list_all (is_row columns) rows) are in
     let one : pred_is_within (length row) pred ≡ true = ap (λ n. pred_is_within n pred) (wide_row columns row both.0) ∙ within in
     ap (λ b. b && reads_within pred rows) one ∙ each_within columns pred rows within both.1
 
-pub are_within : (parts : Parts) (pred : Pred) (rows : List (List Value)) → ReadsCurrent parts pred → AreCurrentRows parts rows → IsTrue (reads_within pred rows)
+pub are_within : (parts : Parts) (pred : Pred) (rows : List (List Value)) → ReadsCurrent parts pred → AreCurrentRows parts rows
+    → IsTrue (reads_within pred rows)
 are_within parts pred rows reads (schema, is, are) = each_within schema.columns pred rows (reads schema is) are
 
 -- ---- what is hit
@@ -78,7 +85,8 @@ none_hit [] live none there = absurd there
 none_hit (row ∷ rows) live none (inl here) = ap is_hit here ∙ (or_parts row.hit (list_any is_hit rows) none).0
 none_hit (row ∷ rows) live none (inr later) = none_hit rows live (or_parts row.hit (list_any is_hit rows) none).1 later
 
-pub missed : (pred : Pred) (rows : List (List Value)) (live : LiveRow) → list_any is_hit (live_rows pred rows) ≡ false → In live (live_rows pred rows) → holds_on pred live.row ≡ false
+pub missed : (pred : Pred) (rows : List (List Value)) (live : LiveRow) → list_any is_hit (live_rows pred rows) ≡ false
+    → In live (live_rows pred rows) → holds_on pred live.row ≡ false
 missed pred rows live none there = sym (hit_is pred 0 rows live there) ∙ none_hit (live_rows pred rows) live none there
 
 same_rows : (pred : Pred) (at : ℕ) (rows : List (List Value)) → map row_of (rows_from pred at rows) ≡ rows

@@ -14,25 +14,33 @@ use Rattle.table_state.specs.declared.load_fault.LoadFault.TheVariants as fault
 use Rattle.change_sets.specs.declared.scanned.ScannedFile.{ScannedFile}
 use Rattle.table_scan.specs.Scanning.{file_at, files_at, has_hit, in_path_order, scanned_at, scanned_from, with_file, with_hit}
 
-ordered_more : (ordered files : List ScannedFile) (file : ScannedFile) → in_path_order ordered (files ++ file ∷ []) ≡ with_file file (in_path_order ordered files)
+ordered_more : (ordered files : List ScannedFile) (file : ScannedFile)
+    → in_path_order ordered (files ++ file ∷ []) ≡ with_file file (in_path_order ordered files)
 unfolding in_path_order
 ordered_more ordered [] file = refl
 ordered_more ordered (first ∷ files) file = ordered_more (with_file first ordered) files file
 
-hit_more : (all : List ScannedFile) (file : ScannedFile) (hit : Bool) → has_hit file ≡ hit → in_path_order [] (filter has_hit all ++ cond hit (file ∷ []) []) ≡ cond hit (with_file file (in_path_order [] (filter has_hit all))) (in_path_order [] (filter has_hit all))
+hit_more : (all : List ScannedFile) (file : ScannedFile) (hit : Bool) → has_hit file ≡ hit
+    → in_path_order [] (filter has_hit all ++ cond hit (file ∷ [])
+    []) ≡ cond hit (with_file file (in_path_order [] (filter has_hit all))) (in_path_order [] (filter has_hit all))
 hit_more all file true is = ordered_more [] (filter has_hit all) file
 hit_more all file false is = ap (in_path_order []) (append-nil (filter has_hit all))
 
-and_file : (all : List ScannedFile) (file : ScannedFile) → with_hit file (in_path_order [] (filter has_hit all)) ≡ in_path_order [] (filter has_hit (all ++ file ∷ []))
+and_file : (all : List ScannedFile) (file : ScannedFile)
+    → with_hit file (in_path_order [] (filter has_hit all)) ≡ in_path_order [] (filter has_hit (all ++ file ∷ []))
 unfolding with_hit
 and_file all file = sym (ap (in_path_order []) (filter-append has_hit all (file ∷ [])) ∙ hit_more all file (has_hit file) refl)
 
 module _ (table : List ℕ) (parts : Parts) (pred : Pred) (files : Files) where
-  step : (all : List ScannedFile) (read : Result ScannedFile LoadFault) (one more : ScannedFile → Result (List ScannedFile) LoadFault) → ((file : ScannedFile) → one file ≡ (more file >>= λ found. Ok (in_path_order [] (filter has_hit found)))) → (read >>= one) ≡ ((read >>= more) >>= λ found. Ok (in_path_order [] (filter has_hit found)))
+  step : (all : List ScannedFile) (read : Result ScannedFile LoadFault)
+      (one more : ScannedFile → Result (List ScannedFile) LoadFault)
+      → ((file : ScannedFile) → one file ≡ (more file >>= λ found. Ok (in_path_order [] (filter has_hit found))))
+      → (read >>= one) ≡ ((read >>= more) >>= λ found. Ok (in_path_order [] (filter has_hit found)))
   step all (Ok file) one more h = h file
   step all (Err f) one more h = refl
 
-  same_from : (all : List ScannedFile) (entries : List Entry) → scanned_from table parts pred (in_path_order [] (filter has_hit all)) entries files ≡ (files_at table parts pred all entries files >>= λ found. Ok (in_path_order [] (filter has_hit found)))
+  same_from : (all : List ScannedFile) (entries : List Entry)
+      → scanned_from table parts pred (in_path_order [] (filter has_hit all)) entries files ≡ (files_at table parts pred all entries files >>= λ found. Ok (in_path_order [] (filter has_hit found)))
   unfolding scanned_from files_at
   same_from all [] = refl
   same_from all (entry ∷ entries) =
@@ -44,7 +52,8 @@ module _ (table : List ℕ) (parts : Parts) (pred : Pred) (files : Files) where
   same entries = same_from [] entries
 
   -- one file more
-  pub steps_on : (scanned next : List ScannedFile) (rest : List Entry) (entry : Entry) (file : ScannedFile) → 1 ≤ length rest → entry ≡ get_or rest 0 entry → file_at table parts pred entry files ≡ Ok file → next ≡ with_hit file scanned
+  pub steps_on : (scanned next : List ScannedFile) (rest : List Entry) (entry : Entry) (file : ScannedFile) → 1 ≤ length rest
+      → entry ≡ get_or rest 0 entry → file_at table parts pred entry files ≡ Ok file → next ≡ with_hit file scanned
       → scanned_from table parts pred next (take (length rest - 1) (drop 1 rest)) files ≡ scanned_from table parts pred scanned rest files
   unfolding scanned_from
   steps_on scanned next [] entry file some first read is = absurd (omega arith)
@@ -64,6 +73,8 @@ module _ {A : Type 0} (told : Option Files) (first second : Files → Result A L
   ok_as (Ok x) h = λ files is. sym (agree files) ∙ h files is
   ok_as (Err f) h = tt
 
-  pub err_as : (r : Result A LoadFault) → IfErr r (λ f. f ≢ fault.Store → f ≢ fault.Memory → ForSome told (λ files. first files ≡ Err f)) → IfErr r (λ f. f ≢ fault.Store → f ≢ fault.Memory → ForSome told (λ files. second files ≡ Err f))
+  pub err_as : (r : Result A LoadFault) → IfErr r (λ f. f ≢ fault.Store → f ≢ fault.Memory
+      → ForSome told (λ files. first files ≡ Err f)) → IfErr r (λ f. f ≢ fault.Store → f ≢ fault.Memory
+      → ForSome told (λ files. second files ≡ Err f))
   err_as (Ok x) h = tt
   err_as (Err f) h = λ store memory files is. sym (agree files) ∙ h store memory files is

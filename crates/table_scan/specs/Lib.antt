@@ -1,2 +1,3 @@
+pub mod Decisions
 pub mod Parting
 pub mod Scanning

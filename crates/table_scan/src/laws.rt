@@ -10,5 +10,6 @@ ghost use Rattle.table_scan.specs.Parting.{IsParted};
 
 /// The rows of data files are those of the scanned files and of others, and the filter is True of no row of the others.
 pub fn rows_of_a_branch_are_its_files()
-    ensures { (table : Seq ℕ) (parts : Parts) (pred : Pred) (entries : Seq Entry) (files : Files) (scanned : Seq ScannedFile) → scanned_at table parts pred entries files ≡ Ok scanned → IsParted table parts pred entries files scanned }
+    ensures { (table : Seq ℕ) (parts : Parts) (pred : Pred) (entries : Seq Entry) (files : Files) (scanned : Seq ScannedFile)
+        → scanned_at table parts pred entries files ≡ Ok scanned → IsParted table parts pred entries files scanned }
 {}

@@ -14,8 +14,7 @@ use plain_types::List;
 use sql_predicates::Pred;
 use std::alloc::Global;
 use store_core::Store;
-use table_load::State;
-use table_state::{LoadFault, data_files_of, read_data_file_at};
+use table_state::{LoadFault, State, data_files_of, read_data_file_at};
 
 #[tactic(auto, unfolding(crate::specs::Scanning::file_at))]
 fn read_file<S: Store>(
@@ -26,9 +25,12 @@ fn read_file<S: Store>(
     entry: &Entry,
 ) -> Result<ScannedFile, LoadFault>
     requires { ReadsCurrent (parts state.now.metadata) filter.now }
-    ensures ok { IfOk result (λ file. ForSome (S.files store.old) (λ files. file_at state.now.table (parts state.now.metadata) filter.now entry.now files ≡ Ok file)) }
+    ensures ok { IfOk result (λ file. ForSome (S.files store.old)
+        (λ files. file_at state.now.table (parts state.now.metadata) filter.now entry.now files ≡ Ok file)) }
     ensures rows { IfOk result (λ file. AreCurrentFiles (parts state.now.metadata) (file ∷ [])) }
-    ensures err { IfErr result (λ f. f ≢ LoadFault.Store → f ≢ LoadFault.Memory → ForSome (S.files store.old) (λ files. file_at state.now.table (parts state.now.metadata) filter.now entry.now files ≡ Err f)) }
+    ensures err { IfErr result (λ f. f ≢ LoadFault.Store → f ≢ LoadFault.Memory
+        → ForSome (S.files store.old)
+        (λ files. file_at state.now.table (parts state.now.metadata) filter.now entry.now files ≡ Err f)) }
     ensures files { S.files store.new ≡ S.files store.old }
     ensures unsettled { IsErrOf result LoadFault.Store → 0 < S.unsettled store.new }
     ensures cause { HasCause LoadFault.Store LoadFault.Memory (S.faults store.old) (S.faults store.new) result }
@@ -53,9 +55,12 @@ fn scan_files<S: Store>(
     entries: &[Entry],
 ) -> Result<List<ScannedFile>, LoadFault>
     requires { ReadsCurrent (parts state.now.metadata) filter.now }
-    ensures ok { IfOk result (λ scanned. ForSome (S.files store.old) (λ files. scanned_from state.now.table (parts state.now.metadata) filter.now [] entries.now files ≡ Ok scanned)) }
+    ensures ok { IfOk result (λ scanned. ForSome (S.files store.old)
+        (λ files. scanned_from state.now.table (parts state.now.metadata) filter.now [] entries.now files ≡ Ok scanned)) }
     ensures rows { IfOk result (λ scanned. AreCurrentFiles (parts state.now.metadata) scanned) }
-    ensures err { IfErr result (λ f. f ≢ LoadFault.Store → f ≢ LoadFault.Memory → ForSome (S.files store.old) (λ files. scanned_from state.now.table (parts state.now.metadata) filter.now [] entries.now files ≡ Err f)) }
+    ensures err { IfErr result (λ f. f ≢ LoadFault.Store → f ≢ LoadFault.Memory
+        → ForSome (S.files store.old)
+        (λ files. scanned_from state.now.table (parts state.now.metadata) filter.now [] entries.now files ≡ Err f)) }
     ensures files { S.files store.new ≡ S.files store.old }
     ensures unsettled { IsErrOf result LoadFault.Store → 0 < S.unsettled store.new }
     ensures cause { HasCause LoadFault.Store LoadFault.Memory (S.faults store.old) (S.faults store.new) result }
@@ -79,9 +84,12 @@ pub fn scan<S: Store>(
     filter: &Pred,
 ) -> Result<List<ScannedFile>, LoadFault>
     requires { ReadsCurrent (parts state.now.metadata) filter.now }
-    ensures ok { IfOk result (λ scanned. ForSome (S.files store.old) (λ files. scanned_at state.now.table (parts state.now.metadata) filter.now (data_files_of state.now.head) files ≡ Ok scanned)) }
+    ensures ok { IfOk result (λ scanned. ForSome (S.files store.old)
+        (λ files. scanned_at state.now.table (parts state.now.metadata) filter.now (data_files_of state.now.head) files ≡ Ok scanned)) }
     ensures rows { IfOk result (λ scanned. AreCurrentFiles (parts state.now.metadata) scanned) }
-    ensures err { IfErr result (λ f. f ≢ LoadFault.Store → f ≢ LoadFault.Memory → ForSome (S.files store.old) (λ files. scanned_at state.now.table (parts state.now.metadata) filter.now (data_files_of state.now.head) files ≡ Err f)) }
+    ensures err { IfErr result (λ f. f ≢ LoadFault.Store → f ≢ LoadFault.Memory
+        → ForSome (S.files store.old)
+        (λ files. scanned_at state.now.table (parts state.now.metadata) filter.now (data_files_of state.now.head) files ≡ Err f)) }
     ensures files { S.files store.new ≡ S.files store.old }
     ensures unsettled { IsErrOf result LoadFault.Store → 0 < S.unsettled store.new }
     ensures cause { HasCause LoadFault.Store LoadFault.Memory (S.faults store.old) (S.faults store.new) result }

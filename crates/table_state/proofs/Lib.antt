@@ -1,3 +1,5 @@
-pub mod Folders
-pub mod Texts
-pub mod Standing
+pub mod CallerLemmas
+mod GatheringLaws
+mod LoadingLaws
+mod Parting
+mod Standing

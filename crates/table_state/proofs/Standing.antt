@@ -4,7 +4,7 @@ use Rattle.std.specs.FinMap as map
 use Rattle.plain_types.specs.Steps.{◌>>=◌, or_fault, by_option, fault_as}
 use Rattle.row_values.specs.declared.value.Value.{Value}
 use Rattle.store_core.specs.Files.{Files, KeepsFiles}
-pub use Rattle.avro_rows.proofs.Stepwise.{two_steps}
+pub use Rattle.plain_types.proofs.CallerLemmas.{two_steps}
 use Rattle.manifest_files.specs.declared.entry.Entry.{Entry}
 use Rattle.manifest_files.specs.declared.manifest_row.ManifestRow.{ManifestRow}
 use Rattle.table_metadata.specs.Metadata.{Parts, metadata_of}
@@ -14,22 +14,25 @@ use Rattle.table_state.specs.declared.load_fault.LoadFault.{LoadFault}
 use Rattle.table_state.specs.declared.load_fault.LoadFault.TheVariants as fault
 use Rattle.table_state.specs.declared.live_set.BranchState.{BranchState}
 use Rattle.table_state.specs.declared.live_set.BranchState.TheVariants as state
-use Rattle.table_state.specs.Paths.{name_of}
+use Rattle.table_names.specs.Paths.{name_of}
 use Rattle.table_names.specs.Versions.{version_name}
 use Rattle.table_state.specs.Files.{bytes_under, file_at, version_at, list_in, list_at, entries_in, manifest_at, rows_in, data_file_at}
-use Rattle.table_state.specs.Live.{entries_at, set_of, head_of, snapshot_with, snapshot_at, head_at, without_head, branch_at, live_of, data_rows, data_files_of, rows_at, rows_of_branch}
+use Rattle.table_state.specs.Live.{entries_at, set_of, head_of, snapshot_at, head_at, without_head, branch_at, live_of, data_rows, data_files_of, rows_at, rows_of_branch}
+use Rattle.table_metadata.specs.ById.{snapshot_with}
 
 module _ (now later : Files) (kept : KeepsFiles (Some now) (Some later)) where
   -- what is read before is read after
   abbrev pub Stands : {A : Type 0} → (Files → Result A LoadFault) → Type 0
   Stands {A = A} reading = (x : A) → reading now ≡ Ok x → reading later ≡ Ok x
 
-  pub stands_then : {A B : Type 0} (first : Files → Result A LoadFault) (second : A → Files → Result B LoadFault) → Stands first → ((a : A) → Stands (second a)) → Stands (λ files. first files >>= λ a. second a files)
+  pub stands_then : {A B : Type 0} (first : Files → Result A LoadFault) (second : A → Files → Result B LoadFault) → Stands first
+      → ((a : A) → Stands (second a)) → Stands (λ files. first files >>= λ a. second a files)
   stands_then {B = B} first second h k x e =
       let s = two_steps (first now) (λ a. second a now) x e in
       subst (λ r. (r >>= λ a. second a later) ≡ Ok x) (sym (h s.0 s.1)) (k s.0 x s.2)
 
-  pub there : (f : LoadFault) (held found : Option (List ℕ)) → ((bytes : List ℕ) → held ≡ Some bytes → found ≡ Some bytes) → (x : List ℕ) → or_fault f held ≡ Ok x → or_fault f found ≡ Ok x
+  pub there : (f : LoadFault) (held found : Option (List ℕ)) → ((bytes : List ℕ) → held ≡ Some bytes → found ≡ Some bytes)
+      → (x : List ℕ) → or_fault f held ≡ Ok x → or_fault f found ≡ Ok x
   there f (Some bytes) found keeps x e = subst (λ o. or_fault f o ≡ Ok x) (sym (keeps bytes refl)) e
   there f None found keeps x e = cc
 
@@ -56,7 +59,8 @@ module _ (now later : Files) (kept : KeepsFiles (Some now) (Some later)) where
   unfolding data_file_at
   data_file_stands table parts path x e = stands_then (λ files. file_at table parts.location path files) (λ bytes files. rows_in parts path bytes) (file_stands table parts.location path) (λ bytes y h. h) x e
 
-  pub entries_stand : (table : List ℕ) (parts : Parts) (earlier : List Entry) (rows : List ManifestRow) → Stands (λ files. entries_at table parts earlier rows files)
+  pub entries_stand : (table : List ℕ) (parts : Parts) (earlier : List Entry) (rows : List ManifestRow)
+      → Stands (λ files. entries_at table parts earlier rows files)
   unfolding entries_at
   entries_stand table parts earlier [] x e = e
   entries_stand table parts earlier (row ∷ rows) x e = stands_then (λ files. manifest_at table parts row files) (λ entries files. entries_at table parts (earlier ++ entries) rows files) (manifest_stands table parts row) (λ entries. entries_stand table parts (earlier ++ entries) rows) x e
@@ -71,7 +75,8 @@ module _ (now later : Files) (kept : KeepsFiles (Some now) (Some later)) where
   unfolding head_at
   head_stands table parts branch id x e = stands_then (λ files. or_fault (fault.Metadata (metadata.Ref branch)) (snapshot_with id parts.snapshots)) (λ snapshot files. snapshot_at table parts snapshot files) (λ y h. h) (λ snapshot. snapshot_stands table parts snapshot) x e
 
-  pub option_stands : {A B : Type 0} (o : Option A) (some : A → Files → Result B LoadFault) (none : Result B LoadFault) → ((a : A) → Stands (some a)) → Stands (λ files. by_option o (λ a. some a files) none)
+  pub option_stands : {A B : Type 0} (o : Option A) (some : A → Files → Result B LoadFault) (none : Result B LoadFault)
+      → ((a : A) → Stands (some a)) → Stands (λ files. by_option o (λ a. some a files) none)
   option_stands (Some a) some none h x e = h a x e
   option_stands None some none h x e = e
 
@@ -84,7 +89,8 @@ module _ (now later : Files) (kept : KeepsFiles (Some now) (Some later)) where
   unfolding live_of
   live_stands table version branch x e = stands_then (λ files. version_at table version files) (λ parts files. branch_at table parts branch files) (version_stands table version) (λ parts. branch_stands table parts branch) x e
 
-  pub rows_stand : (table : List ℕ) (parts : Parts) (earlier : List (List Value)) (entries : List Entry) → Stands (λ files. data_rows table parts earlier entries files)
+  pub rows_stand : (table : List ℕ) (parts : Parts) (earlier : List (List Value)) (entries : List Entry)
+      → Stands (λ files. data_rows table parts earlier entries files)
   unfolding data_rows
   rows_stand table parts earlier [] x e = e
   rows_stand table parts earlier (entry ∷ entries) x e = stands_then (λ files. data_file_at table parts entry.path files) (λ rows files. data_rows table parts (earlier ++ rows) entries files) (data_file_stands table parts entry.path) (λ rows. rows_stand table parts (earlier ++ rows) entries) x e

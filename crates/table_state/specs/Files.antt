@@ -1,12 +1,10 @@
 -- What the files of a table hold, by the paths that the table's own files name them by, or why that can't be said.
 use Rattle.std.specs.Prelude.{◌≡◌, ℕ, ℤ, codes, List, [], ◌∷◌, Option, Some, None, Result, if◌then◌else◌, Ok}
 use Rattle.std.specs.FinMap as map
-use Rattle.std.specs.Ordering.{int_eq}
 use Rattle.plain_types.specs.Steps.{◌>>=◌, or_fault, fault_as}
 use Rattle.row_values.specs.declared.value.Value.{Value}
 use Rattle.row_values.specs.declared.schema.TableSchema.{TableSchema}
 use Rattle.row_values.specs.Rows.{AreRows}
-use Rattle.row_values.specs.declared.partition.Spec.{Spec}
 use Rattle.store_core.specs.Files.{Files}
 use Rattle.avro_container.specs.Container.{container_of}
 use Rattle.avro_rows.specs.Rows.{rows_of}
@@ -15,11 +13,12 @@ use Rattle.manifest_files.specs.declared.manifest_fault.ManifestFault.TheVariant
 use Rattle.manifest_files.specs.declared.manifest_row.ManifestRow.{ManifestRow}
 use Rattle.manifest_files.specs.Lists.{rows_of_list}
 use Rattle.manifest_files.specs.Entries.{entries_of}
+use Rattle.table_metadata.specs.ById.{schema_with, spec_with}
 use Rattle.table_metadata.specs.Metadata.{Parts, metadata_of}
 use Rattle.table_metadata.specs.declared.metadata_fault.MetadataFault.TheVariants as metadata
 use Rattle.table_state.specs.declared.load_fault.LoadFault.{LoadFault}
 use Rattle.table_state.specs.declared.load_fault.LoadFault.TheVariants as fault
-use Rattle.table_state.specs.Paths.{name_of}
+use Rattle.table_names.specs.Paths.{name_of}
 use Rattle.table_names.specs.Versions.{version_name}
 
 -- the bytes under a name of the store, which the table knows by this path
@@ -33,16 +32,6 @@ file_at table location path files = or_fault (fault.Outside path) (name_of table
 -- the metadata of a version
 unfoldable pub version_at : List ℕ → ℕ → Files → Result Parts LoadFault
 version_at table version files = bytes_under (version_name table version) (version_name table version) files >>= λ bytes. fault_as fault.Metadata (metadata_of bytes)
-
--- ---- what the metadata names by id
-
-unfoldable pub spec_with : ℤ → List Spec → Option Spec
-spec_with id [] = None
-spec_with id (spec ∷ specs) = if int_eq spec.id id then Some spec else spec_with id specs
-
-unfoldable pub schema_with : ℤ → List TableSchema → Option TableSchema
-schema_with id [] = None
-schema_with id (schema ∷ schemas) = if int_eq schema.id id then Some schema else schema_with id schemas
 
 abbrev pub current_schema : Parts → Result TableSchema LoadFault
 current_schema parts = or_fault (fault.Metadata (metadata.Shape (codes "current-schema-id"))) (schema_with parts.current_schema parts.schemas)

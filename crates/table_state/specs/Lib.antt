@@ -1,4 +1,7 @@
-pub mod Paths
 pub mod Faults
 pub mod Files
+pub mod Form
+pub mod Gathering
 pub mod Live
+pub mod Loading
+pub mod States

@@ -10,6 +10,7 @@ use Rattle.manifest_files.specs.declared.entry.Content.TheVariants as content
 use Rattle.manifest_files.specs.declared.entry.Entry.{Entry}
 use Rattle.manifest_files.specs.declared.manifest_row.ManifestRow.{ManifestRow}
 use Rattle.manifest_files.specs.Entries as statuses
+use Rattle.table_metadata.specs.ById.{snapshot_with}
 use Rattle.table_metadata.specs.Metadata.{Parts}
 use Rattle.table_metadata.specs.declared.metadata_fault.MetadataFault.TheVariants as metadata
 use Rattle.table_metadata.specs.declared.references.RefItem.{RefItem}
@@ -49,10 +50,6 @@ entries_at table parts earlier (row ∷ rows) files = manifest_at table parts ro
 unfoldable pub head_of : List ℕ → List RefItem → Option ℤ
 head_of branch [] = None
 head_of branch (ref ∷ refs) = if pointwise nat_eq ref.name branch && not ref.tag then Some ref.snapshot else head_of branch refs
-
-unfoldable pub snapshot_with : ℤ → List Snapshot → Option Snapshot
-snapshot_with id [] = None
-snapshot_with id (snapshot ∷ snapshots) = if int_eq snapshot.id id then Some snapshot else snapshot_with id snapshots
 
 -- `main` is there without a snapshot too.
 abbrev pub without_head : List ℕ → BranchState

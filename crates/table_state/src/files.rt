@@ -1,20 +1,31 @@
 // One file of a table at a time.
 ghost use Rattle.std.specs.Prelude.{◌≡◌, ◌≢◌, ◌<◌, Ok, Err, IfOk, IfErr, IsErrOf};
-ghost use Rattle.std.specs.Option.{ForSome, option_copied};
+ghost use Rattle.std.specs.Option.{ForSome};
 ghost use Rattle.plain_types.specs.Causes.{HasCause};
 ghost use Rattle.table_metadata.specs.Metadata.{parts};
-ghost use Rattle.table_state.specs.Files.{AreCurrentRows, bytes_under, current_schema, data_file_at, entries_in, file_at, list_at, list_in, manifest_at, rows_in, schema_with, spec_with};
+ghost use Rattle.table_state.specs.Files.{
+  AreCurrentRows,
+  bytes_under,
+  current_schema,
+  data_file_at,
+  entries_in,
+  file_at,
+  list_at,
+  list_in,
+  manifest_at,
+  rows_in,
+};
 
 use crate::load_fault::{LoadFault, container_fault, manifest_fault, rows_fault};
-use crate::paths::name_of;
 use avro_container::read_container;
 use avro_rows::read_rows;
 use manifest_files::{Entry, ManifestFault, ManifestRow, read_list, read_manifest};
 use plain_types::{List, Text};
-use row_values::{Row, Spec, TableSchema};
+use row_values::{Row, TableSchema};
 use std::alloc::Global;
 use store_core::{Blob, ReadAnswer, Store};
-use table_metadata::{Metadata, MetadataFault};
+use table_metadata::{Metadata, MetadataFault, schema_with, spec_with};
+use table_names::name_of;
 
 // The bytes under a name of the store, which the table knows by this path.
 fn read_name<S: Store>(
@@ -24,7 +35,8 @@ fn read_name<S: Store>(
     name: &str,
 ) -> Result<Blob, LoadFault>
     ensures ok { IfOk result (λ bytes. ForSome (S.files store.old) (λ files. bytes_under path.now name.now files ≡ Ok bytes)) }
-    ensures err { IfErr result (λ f. f ≢ LoadFault.Store → f ≢ LoadFault.Memory → ForSome (S.files store.old) (λ files. bytes_under path.now name.now files ≡ Err f)) }
+    ensures err { IfErr result (λ f. f ≢ LoadFault.Store → f ≢ LoadFault.Memory
+        → ForSome (S.files store.old) (λ files. bytes_under path.now name.now files ≡ Err f)) }
     ensures files { S.files store.new ≡ S.files store.old }
     ensures unsettled { IsErrOf result LoadFault.Store → 0 < S.unsettled store.new }
     ensures cause { HasCause LoadFault.Store LoadFault.Memory (S.faults store.old) (S.faults store.new) result }
@@ -46,7 +58,8 @@ pub fn read_file<S: Store>(
     path: &str,
 ) -> Result<Blob, LoadFault>
     ensures ok { IfOk result (λ bytes. ForSome (S.files store.old) (λ files. file_at table.now location.now path.now files ≡ Ok bytes)) }
-    ensures err { IfErr result (λ f. f ≢ LoadFault.Store → f ≢ LoadFault.Memory → ForSome (S.files store.old) (λ files. file_at table.now location.now path.now files ≡ Err f)) }
+    ensures err { IfErr result (λ f. f ≢ LoadFault.Store → f ≢ LoadFault.Memory
+        → ForSome (S.files store.old) (λ files. file_at table.now location.now path.now files ≡ Err f)) }
     ensures files { S.files store.new ≡ S.files store.old }
     ensures unsettled { IsErrOf result LoadFault.Store → 0 < S.unsettled store.new }
     ensures cause { HasCause LoadFault.Store LoadFault.Memory (S.faults store.old) (S.faults store.new) result }
@@ -55,36 +68,6 @@ pub fn read_file<S: Store>(
         Some(name) => read_name(alloc, store, path, name.as_str()),
         None => Err(LoadFault::Outside(Text::copy_of(alloc, path)?)),
     }
-}
-
-/// The partition spec with an id.
-#[tactic(auto, unfolding(crate::specs::Files::spec_with))]
-pub fn spec_with(id: i32, specs: &[Spec]) -> Option<&Spec>
-    ensures { option_copied result ≡ spec_with id specs.now }
-{
-    let mut rest = specs;
-    while let [spec, after @ ..] = rest {
-        if spec.id == id {
-            return Some(spec);
-        }
-        rest = after;
-    }
-    None
-}
-
-/// The schema with an id.
-#[tactic(auto, unfolding(crate::specs::Files::schema_with))]
-pub fn schema_with(id: i32, schemas: &[TableSchema]) -> Option<&TableSchema>
-    ensures { option_copied result ≡ schema_with id schemas.now }
-{
-    let mut rest = schemas;
-    while let [schema, after @ ..] = rest {
-        if schema.id == id {
-            return Some(schema);
-        }
-        rest = after;
-    }
-    None
 }
 
 // The current schema, which all metadata that was read has.
@@ -123,7 +106,8 @@ pub fn read_list_at<S: Store>(
     path: &str,
 ) -> Result<List<ManifestRow>, LoadFault>
     ensures ok { IfOk result (λ rows. ForSome (S.files store.old) (λ files. list_at table.now (parts metadata.now) path.now files ≡ Ok rows)) }
-    ensures err { IfErr result (λ f. f ≢ LoadFault.Store → f ≢ LoadFault.Memory → ForSome (S.files store.old) (λ files. list_at table.now (parts metadata.now) path.now files ≡ Err f)) }
+    ensures err { IfErr result (λ f. f ≢ LoadFault.Store → f ≢ LoadFault.Memory
+        → ForSome (S.files store.old) (λ files. list_at table.now (parts metadata.now) path.now files ≡ Err f)) }
     ensures files { S.files store.new ≡ S.files store.old }
     ensures unsettled { IsErrOf result LoadFault.Store → 0 < S.unsettled store.new }
     ensures cause { HasCause LoadFault.Store LoadFault.Memory (S.faults store.old) (S.faults store.new) result }
@@ -169,7 +153,8 @@ pub fn read_manifest_at<S: Store>(
     row: &ManifestRow,
 ) -> Result<List<Entry>, LoadFault>
     ensures ok { IfOk result (λ entries. ForSome (S.files store.old) (λ files. manifest_at table.now (parts metadata.now) row.now files ≡ Ok entries)) }
-    ensures err { IfErr result (λ f. f ≢ LoadFault.Store → f ≢ LoadFault.Memory → ForSome (S.files store.old) (λ files. manifest_at table.now (parts metadata.now) row.now files ≡ Err f)) }
+    ensures err { IfErr result (λ f. f ≢ LoadFault.Store → f ≢ LoadFault.Memory
+        → ForSome (S.files store.old) (λ files. manifest_at table.now (parts metadata.now) row.now files ≡ Err f)) }
     ensures files { S.files store.new ≡ S.files store.old }
     ensures unsettled { IsErrOf result LoadFault.Store → 0 < S.unsettled store.new }
     ensures cause { HasCause LoadFault.Store LoadFault.Memory (S.faults store.old) (S.faults store.new) result }
@@ -220,7 +205,8 @@ pub fn read_data_file_at<S: Store>(
 ) -> Result<List<Row>, LoadFault>
     ensures ok { IfOk result (λ rows. ForSome (S.files store.old) (λ files. data_file_at table.now (parts metadata.now) path.now files ≡ Ok rows)) }
     ensures rows { IfOk result (λ rows. AreCurrentRows (parts metadata.now) rows) }
-    ensures err { IfErr result (λ f. f ≢ LoadFault.Store → f ≢ LoadFault.Memory → ForSome (S.files store.old) (λ files. data_file_at table.now (parts metadata.now) path.now files ≡ Err f)) }
+    ensures err { IfErr result (λ f. f ≢ LoadFault.Store → f ≢ LoadFault.Memory
+        → ForSome (S.files store.old) (λ files. data_file_at table.now (parts metadata.now) path.now files ≡ Err f)) }
     ensures files { S.files store.new ≡ S.files store.old }
     ensures unsettled { IsErrOf result LoadFault.Store → 0 < S.unsettled store.new }
     ensures cause { HasCause LoadFault.Store LoadFault.Memory (S.faults store.old) (S.faults store.new) result }

@@ -1,19 +1,29 @@
-//! What the files of a table hold, as a store has them: metadata, manifest lists, manifests, data files, and the branches
-//! that they make.
+//! What the files of a table hold, as a store has them: metadata, manifest lists, manifests, data files, the branches that
+//! they make, and whether a version has the form that is read and written so far.
+//!
+//! A reading answers what its definition says of the files, or the first fault with its path. What is read stands when files
+//! are added, so what was loaded of a version stays true.
 #![tactic(auto)]
 
 mod branches;
 mod files;
+mod form;
+mod gathered;
 mod laws;
 mod live_set;
 mod load_fault;
-mod paths;
+mod load_laws;
+mod loading;
+mod state;
 
-pub use branches::{head_of, snapshot_with};
-pub use files::{
-    read_data_file_at, read_file, read_list_at, read_manifest_at, schema_with, spec_with,
+pub use branches::head_of;
+pub use files::{read_data_file_at, read_file, read_list_at, read_manifest_at};
+pub use form::{
+    are_data_entries, are_data_manifests, are_plain_columns, has_form, is_plain_writing,
 };
 pub use laws::branches_stand_when_files_are_added;
 pub use live_set::{BranchState, LiveSet, data_files_of};
 pub use load_fault::LoadFault;
-pub use paths::{folder_of, name_of};
+pub use load_laws::a_loaded_head_is_parted;
+pub use loading::load;
+pub use state::{LiveCount, State};

@@ -1,4 +1,4 @@
-use Rattle.commit_builder.proofs.Held.{holds}
+use Rattle.commit_manifests.proofs.CallerLemmas.{holds}
 use Rattle.commit_builder.proofs.laws.a_commit_holds_the_change.Goals as goal
 
 pub returns : goal.returns

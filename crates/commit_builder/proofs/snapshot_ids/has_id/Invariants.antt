@@ -1,5 +1,5 @@
 use Rattle.std.proofs.Common.{◌≡◌, length}
-use Rattle.commit_builder.specs.SnapshotIds.{has_id}
+use Rattle.commit_manifests.specs.Sorting.{has_id}
 use Rattle.commit_builder.proofs.snapshot_ids.has_id.Given as goal
 
 abbrev pub invariant-loop-rest : goal.invariant-loop-rest

@@ -1,9 +1,9 @@
 use Rattle.std.proofs.Common.{◌≡◌, ℕ, length, rules, ap, ◌∙◌}
 use Rattle.row_values.specs.declared.partition.Spec.{Spec}
-use Rattle.manifest_rows.specs.Rows.{row_of}
-use Rattle.table_state.specs.Paths.{folder_of}
+use Rattle.commit_manifests.specs.Rows.{row_of}
+use Rattle.table_names.specs.Paths.{folder_of}
 use Rattle.commit_builder.specs.Commits.{next_name, row_in, text_in}
-use Rattle.commit_builder.specs.Drafts.{spec_in}
+use Rattle.commit_manifests.specs.Drafts.{spec_in}
 use Rattle.commit_builder.proofs.writing.manifest_of.Goals as goal
 
 pub returns-clause-row : goal.returns-clause-row

@@ -3,7 +3,7 @@ use Rattle.std.specs.List.{AllByRecursion}
 use Rattle.store_core.specs.Files.{with_file}
 use Rattle.commit_builder.specs.Commits.{IsSpelled, next_name}
 use Rattle.commit_builder.proofs.Manifests.{files_step, first_and_rest, rows_step}
-use Rattle.commit_builder.specs.Puts.{LeavesOthers}
+use Rattle.commit_builder.specs.Puts.{PutsManifests}
 use Rattle.commit_builder.proofs.Puts.{others_then}
 use Rattle.commit_builder.proofs.writing.put_manifests.Goals as goal
 
@@ -12,14 +12,14 @@ pub returns-in-Err-clause-others : goal.returns-in-Err-clause-others
 returns-in-Err-clause-others g c =
     others_then c.args.head.now.table c.args.names.now c.loop-rest.names (g.S.Store.files c.args.store.now) (g.S.Store.files c.loop-rest.store) (g.S.Store.files c.put_next.new.store)
     c.loop-rest.invariant.run c.loop-rest.invariant.session c.loop-rest.invariant.above c.loop-rest.invariant.others
-    (subst (λ (table : List ℕ). LeavesOthers table c.loop-rest.names (g.S.Store.files c.loop-rest.store) (g.S.Store.files c.put_next.new.store)) c.as_str.ensures c.put_next.ensures.others)
+    (subst (λ (table : List ℕ). PutsManifests table c.loop-rest.names (g.S.Store.files c.loop-rest.store) (g.S.Store.files c.put_next.new.store)) c.as_str.ensures c.put_next.ensures.others)
 
 -- src/writing.rt:124:9
 pub returns-in_err-push-clause-others : goal.returns-in_err-push-clause-others
 returns-in_err-push-clause-others g c =
     others_then c.args.head.now.table c.args.names.now c.loop-rest.names (g.S.Store.files c.args.store.now) (g.S.Store.files c.loop-rest.store) (g.S.Store.files c.put_next.new.store)
     c.loop-rest.invariant.run c.loop-rest.invariant.session c.loop-rest.invariant.above c.loop-rest.invariant.others
-    (subst (λ (table : List ℕ). LeavesOthers table c.loop-rest.names (g.S.Store.files c.loop-rest.store) (g.S.Store.files c.put_next.new.store)) c.as_str.ensures c.put_next.ensures.others)
+    (subst (λ (table : List ℕ). PutsManifests table c.loop-rest.names (g.S.Store.files c.loop-rest.store) (g.S.Store.files c.put_next.new.store)) c.as_str.ensures c.put_next.ensures.others)
 
 -- src/writing.rt:121:5
 pub loop-rest-preserved : goal.loop-rest-preserved
@@ -42,7 +42,7 @@ loop-rest-preserved g c = record {
   others =
       others_then c.args.head.now.table c.args.names.now c.loop-rest.names (g.S.Store.files c.args.store.now) (g.S.Store.files c.loop-rest.store) (g.S.Store.files c.put_next.new.store)
       c.loop-rest.invariant.run c.loop-rest.invariant.session c.loop-rest.invariant.above c.loop-rest.invariant.others
-      (subst (λ (table : List ℕ). LeavesOthers table c.loop-rest.names (g.S.Store.files c.loop-rest.store) (g.S.Store.files c.put_next.new.store)) c.as_str.ensures c.put_next.ensures.others);
+      (subst (λ (table : List ℕ). PutsManifests table c.loop-rest.names (g.S.Store.files c.loop-rest.store) (g.S.Store.files c.put_next.new.store)) c.as_str.ensures c.put_next.ensures.others);
   told = c.put_next.ensures.told ∙ c.loop-rest.invariant.told;
   kept = search rules;
   reads = search rules;

@@ -1,5 +1,5 @@
 use Rattle.std.proofs.Common.{◌≡◌, ◌+◌, ◌≤◌, length}
-use Rattle.cow_writer.specs.Deciding.{hits}
+use Rattle.change_sets.specs.Deciding.{hits}
 use Rattle.cow_writer.proofs.deciding.hits.Given as goal
 
 abbrev pub invariant-loop-rest : goal.invariant-loop-rest

@@ -1,5 +1,5 @@
 use Rattle.std.proofs.Common.{◌≡◌, length}
-use Rattle.cow_writer.specs.Deciding.{rows_left}
+use Rattle.change_sets.specs.Deciding.{rows_left}
 use Rattle.cow_writer.specs.Pieces.{and_rows, seen}
 use Rattle.cow_writer.proofs.touched.add_rows_left.Given as goal
 

@@ -1,5 +1,5 @@
 use Rattle.std.proofs.Common.{◌≡◌, ◌++◌, length}
-use Rattle.cow_writer.specs.Deciding.{removed_of}
+use Rattle.change_sets.specs.Deciding.{removed_of}
 use Rattle.cow_writer.proofs.touched.removed_files.Given as goal
 
 abbrev pub invariant-loop-rest : goal.invariant-loop-rest

@@ -1,7 +1,7 @@
 use Rattle.std.proofs.Common.{◌≡◌, List, ap, ◌∙◌}
 use Rattle.row_values.specs.declared.value.Value.{Value}
 use Rattle.change_sets.specs.declared.scanned.Decision.{Decision}
-use Rattle.cow_writer.specs.Deciding.{copied_of, written_of}
+use Rattle.change_sets.specs.Deciding.{copied_of, written_of}
 use Rattle.cow_writer.specs.Pieces.{Pieces, and_rows, finished, pieces_of, seen}
 use Rattle.cow_writer.proofs.PieceLaws.{cut_in_two, ok_with}
 use Rattle.cow_writer.proofs.touched.written_pieces.Goals as goal

@@ -2,7 +2,7 @@ use Rattle.std.proofs.Common.{◌≡◌, sym, ap, ◌∙◌, subst}
 use Rattle.std.specs.List.{list_all}
 use Rattle.row_values.specs.declared.schema.TableSchema.{TableSchema}
 use Rattle.row_values.specs.Rows.{AreRows, is_row}
-use Rattle.cow_writer.specs.Deciding.{written_of}
+use Rattle.change_sets.specs.Deciding.{written_of}
 use Rattle.cow_writer.proofs.PieceLaws.{are_rows}
 use Rattle.cow_writer.proofs.writing.write_copies.Goals as goal
 

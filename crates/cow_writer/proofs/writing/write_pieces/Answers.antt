@@ -1,7 +1,7 @@
 use Rattle.std.proofs.Common.{◌≡◌, ◌<◌, ◌≤◌, ◌+◌, ◌^◌, List, length, option_map, ap, ◌∙◌, subst, arith}
 use Rattle.row_values.specs.declared.value.Value.{Value}
 use Rattle.store_core.specs.Files.{with_file}
-use Rattle.file_names.specs.declared.names.Names.{Names}
+use Rattle.table_names.specs.declared.names.Names.{Names}
 use Rattle.row_writer.specs.RowsText.{rows_text}
 use Rattle.cow_writer.specs.Copies.{entry_at, next_name}
 use Rattle.cow_writer.proofs.PutLaws.{others_then}

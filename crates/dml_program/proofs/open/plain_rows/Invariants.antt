@@ -7,7 +7,9 @@ use Rattle.dml_program.proofs.open.plain_rows.Given as goal
 -- the files that are left, behind what is read, give the same
 abbrev pub invariant-loop-rest : goal.invariant-loop-rest
 invariant-loop-rest g l = record {
-  same : ForSome (g.S.Store.files l.initial.store) (λ files. plain_rows l.table (parts l.metadata) l.rows.items l.rest files ≡ plain_rows l.table (parts l.metadata) [] l.entries files);
+  same : ForSome (g.S.Store.files l.initial.store)
+      (λ files. plain_rows l.table (parts l.metadata) l.rows.items l.rest files ≡ plain_rows l.table (parts l.metadata)
+      [] l.entries files);
   files : g.S.Store.files l.store ≡ g.S.Store.files l.initial.store;
   faults : g.S.Store.faults l.store ≡ g.S.Store.faults l.initial.store;
 }

@@ -1,6 +1,6 @@
 use Rattle.std.proofs.Common.{ℕ, List, [], Option, ap, inr, refl, sym, subst, ◌∙◌}
 use Rattle.store_core.specs.Files.{Files, bytes_of}
-use Rattle.dml_program.specs.Answers.{Leaves, Writes, refused, report_lines}
+use Rattle.dml_program.specs.Answers.{LeavesAnswered, Writes, refused, report_lines}
 use Rattle.dml_program.specs.Beginning.{begun_of}
 use Rattle.dml_program.proofs.Reports.{fault_report}
 use Rattle.dml_program.proofs.ScriptReports.{began, each_refusal, none_refused, run_input, stops_carry, stops_complete, stops_leave, unbegun_is_fault, unbegun_runs}
@@ -44,7 +44,7 @@ returns-in-Err-clause-complete g c store_kept inputs_kept out_kept files told in
 
 pub returns-in-Err-clause-leaves : goal.returns-in-Err-clause-leaves
 returns-in-Err-clause-leaves g c files told inputs given =
-    each_refusal (begun_of c.args.table.now c.args.script.now files inputs) (λ reason. Leaves (refused reason) c.write_fault.result files (g.S.Store.files c.begin.new.store)) (λ reason. stops_leave reason c.write_fault.result files (g.S.Store.files c.begin.new.store) (c.begin.ensures.files ∙ told))
+    each_refusal (begun_of c.args.table.now c.args.script.now files inputs) (λ reason. LeavesAnswered (refused reason) c.write_fault.result files (g.S.Store.files c.begin.new.store)) (λ reason. stops_leave reason c.write_fault.result files (g.S.Store.files c.begin.new.store) (c.begin.ensures.files ∙ told))
 
 pub returns-in-Err-clause-report : goal.returns-in-Err-clause-report
 returns-in-Err-clause-report g c files told inputs given =

@@ -3,7 +3,7 @@ use Rattle.plain_types.specs.Causes.{Rose}
 use Rattle.store_core.specs.Files.{Files}
 use Rattle.command_line.specs.declared.words.Command.{Command}
 use Rattle.command_line.specs.Words.{Wanted, command_of, texts, wanted}
-use Rattle.dml_program.specs.Answers.{Carries, Leaves, OnlyReads, RunsNothing, ToldOf, Writes, refused, report_lines, status_of}
+use Rattle.dml_program.specs.Answers.{Carries, LeavesAnswered, OnlyReads, RunsNothing, ToldOf, Writes, refused, report_lines, status_of}
 use Rattle.dml_program.specs.Causes.{IsSettledBy}
 use Rattle.dml_program.specs.ScriptRuns.{IsRan, IsUnread, OfRun}
 use Rattle.dml_program.specs.Statuses.{fault_lines}
@@ -33,7 +33,7 @@ returns-in-Ok-Run-clause-quiet g c done =
 pub returns-in-Ok-Run-clause-leaves : goal.returns-in-Ok-Run-clause-leaves
 returns-in-Ok-Run-clause-leaves g c =
     let asks = c.in-Ok-Run.ensures.found ∙ ap (λ (m : Command). Some (wanted m)) c.in-Ok-Run.field-0-is in
-    subst (λ (d : Option Wanted). ToldOf d (g.S.Store.files c.args.store.now) (g.I.Inputs.contents c.args.inputs.now) (g.C.Clock.time c.args.clock.now) (λ files answer. Leaves answer c.run.result files (g.S.Store.files c.run.new.store))) (sym asks) c.run.ensures.leaves
+    subst (λ (d : Option Wanted). ToldOf d (g.S.Store.files c.args.store.now) (g.I.Inputs.contents c.args.inputs.now) (g.C.Clock.time c.args.clock.now) (λ files answer. LeavesAnswered answer c.run.result files (g.S.Store.files c.run.new.store))) (sym asks) c.run.ensures.leaves
 
 pub returns-in-Ok-Run-clause-only_reads : goal.returns-in-Ok-Run-clause-only_reads
 returns-in-Ok-Run-clause-only_reads g c =
@@ -75,7 +75,7 @@ returns-in-Ok-clause-quiet g c done =
 pub returns-in-Ok-clause-leaves : goal.returns-in-Ok-clause-leaves
 returns-in-Ok-clause-leaves g c =
     let asks = c.in-Ok.ensures.found in
-    subst (λ (d : Option Wanted). ToldOf d (g.S.Store.files c.args.store.now) (g.I.Inputs.contents c.args.inputs.now) (g.C.Clock.time c.args.clock.now) (λ files answer. Leaves answer c.answer.result files (g.S.Store.files c.answer.new.store))) (sym asks) c.answer.ensures.leaves
+    subst (λ (d : Option Wanted). ToldOf d (g.S.Store.files c.args.store.now) (g.I.Inputs.contents c.args.inputs.now) (g.C.Clock.time c.args.clock.now) (λ files answer. LeavesAnswered answer c.answer.result files (g.S.Store.files c.answer.new.store))) (sym asks) c.answer.ensures.leaves
 
 pub returns-in-Ok-clause-only_reads : goal.returns-in-Ok-clause-only_reads
 returns-in-Ok-clause-only_reads g c =
@@ -106,7 +106,7 @@ pub returns-in-Err-Usage-clause-complete : goal.returns-in-Err-Usage-clause-comp
 returns-in-Err-Usage-clause-complete g c store_kept inputs_kept out_kept = told_usage (command_of (texts c.args.words.now)) (g.S.Store.files c.args.store.now) (g.I.Inputs.contents c.args.inputs.now) (g.C.Clock.time c.args.clock.now) (λ files answer. (c.write_fault.result ≡ status.Memory) ⊎ (c.write_fault.result ≡ status_of answer)) (c.read_words.ensures.usage cc) (λ files told. swap_either c.write_fault.ensures.status)
 
 pub returns-in-Err-Usage-clause-leaves : goal.returns-in-Err-Usage-clause-leaves
-returns-in-Err-Usage-clause-leaves g c = told_usage (command_of (texts c.args.words.now)) (g.S.Store.files c.args.store.now) (g.I.Inputs.contents c.args.inputs.now) (g.C.Clock.time c.args.clock.now) (λ files answer. Leaves answer c.write_fault.result files (g.S.Store.files c.args.store.now)) (c.read_words.ensures.usage cc) (λ files told. stops_leave status.Usage c.write_fault.result files (g.S.Store.files c.args.store.now) told)
+returns-in-Err-Usage-clause-leaves g c = told_usage (command_of (texts c.args.words.now)) (g.S.Store.files c.args.store.now) (g.I.Inputs.contents c.args.inputs.now) (g.C.Clock.time c.args.clock.now) (λ files answer. LeavesAnswered answer c.write_fault.result files (g.S.Store.files c.args.store.now)) (c.read_words.ensures.usage cc) (λ files told. stops_leave status.Usage c.write_fault.result files (g.S.Store.files c.args.store.now) told)
 
 pub returns-in-Err-Usage-clause-report : goal.returns-in-Err-Usage-clause-report
 returns-in-Err-Usage-clause-report g c = told_usage (command_of (texts c.args.words.now)) (g.S.Store.files c.args.store.now) (g.I.Inputs.contents c.args.inputs.now) (g.C.Clock.time c.args.clock.now) (λ files answer. Writes (report_lines answer c.write_fault.result) (g.K.Sink.written c.args.out.now) (g.K.Sink.written c.write_fault.new.out) (g.K.Sink.faults c.args.out.now) (g.K.Sink.faults c.write_fault.new.out)) (c.read_words.ensures.usage cc) (λ files told. subst (λ (lines : List ℕ). Writes lines (g.K.Sink.written c.args.out.now) (g.K.Sink.written c.write_fault.new.out) (g.K.Sink.faults c.args.out.now) (g.K.Sink.faults c.write_fault.new.out)) (sym (fault_report (refused status.Usage) status.Usage c.write_fault.result tt c.write_fault.ensures.status)) c.write_fault.ensures.report)
@@ -126,7 +126,7 @@ pub returns-in-Err-Memory-clause-complete : goal.returns-in-Err-Memory-clause-co
 returns-in-Err-Memory-clause-complete g c store_kept inputs_kept out_kept = told_anyway (command_of (texts c.args.words.now)) (g.S.Store.files c.args.store.now) (g.I.Inputs.contents c.args.inputs.now) (g.C.Clock.time c.args.clock.now) (λ files answer. (status.Memory ≡ status.Memory) ⊎ (status.Memory ≡ status_of answer)) (λ files told answer. inl refl)
 
 pub returns-in-Err-Memory-clause-leaves : goal.returns-in-Err-Memory-clause-leaves
-returns-in-Err-Memory-clause-leaves g c = told_anyway (command_of (texts c.args.words.now)) (g.S.Store.files c.args.store.now) (g.I.Inputs.contents c.args.inputs.now) (g.C.Clock.time c.args.clock.now) (λ files answer. Leaves answer status.Memory files (g.S.Store.files c.args.store.now)) (λ files told answer. inl told)
+returns-in-Err-Memory-clause-leaves g c = told_anyway (command_of (texts c.args.words.now)) (g.S.Store.files c.args.store.now) (g.I.Inputs.contents c.args.inputs.now) (g.C.Clock.time c.args.clock.now) (λ files answer. LeavesAnswered answer status.Memory files (g.S.Store.files c.args.store.now)) (λ files told answer. inl told)
 
 pub returns-in-Err-Memory-clause-report : goal.returns-in-Err-Memory-clause-report
 returns-in-Err-Memory-clause-report g c = told_anyway (command_of (texts c.args.words.now)) (g.S.Store.files c.args.store.now) (g.I.Inputs.contents c.args.inputs.now) (g.C.Clock.time c.args.clock.now) (λ files answer. Writes (report_lines answer status.Memory) (g.K.Sink.written c.args.out.now) (g.K.Sink.written c.args.out.now) (g.K.Sink.faults c.args.out.now) (g.K.Sink.faults c.args.out.now)) (λ files told answer. nothing_writes (g.K.Sink.written c.args.out.now) _ _ (memory_report answer))

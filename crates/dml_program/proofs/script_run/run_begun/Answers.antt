@@ -1,7 +1,7 @@
 use Rattle.std.proofs.Common.{Option, [], None, Some, subst, ◌∙◌}
 use Rattle.session_steps.specs.declared.fault.RunFault.{RunFault}
-use Rattle.session_loop.specs.Outcome.{IsOutcome, first_place}
-use Rattle.session_loop.specs.Scripts.{statements_in}
+use Rattle.schedule_runner.specs.Outcome.{IsOutcome, first_place}
+use Rattle.schedule_runner.specs.Scripts.{statements_in}
 use Rattle.dml_program.proofs.ScriptReports.{open_rows, others_told, ran}
 use Rattle.dml_program.proofs.script_run.run_begun.Goals as goal
 

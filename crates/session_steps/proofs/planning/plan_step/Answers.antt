@@ -1,6 +1,6 @@
 use Rattle.std.proofs.Common.{Option, subst, sym, arith}
 use Rattle.store_core.specs.Files.{Files, KeepsFiles}
-use Rattle.cow_writer.specs.PutNames.{LeavesOthers}
+use Rattle.cow_writer.specs.PutNames.{PutsDataFiles}
 use Rattle.commit_builder.specs.NextVersion.{AreNames}
 use Rattle.session_steps.proofs.Plans.{plan_steps}
 use Rattle.session_steps.proofs.Faulted.{by_plan}
@@ -13,7 +13,7 @@ pub returns-in-Ok-take-clause-step : goal.returns-in-Ok-take-clause-step
 returns-in-Ok-take-clause-step g c old told current is =
     plan_steps c.args.table.now c.args.schema.now c.args.sources.now c.args.statement.now c.requires.main old current is c.args.session.now.place c.take.new.session c.in-Ok-take.stepped c.requires.phase c.args.session.now.names c.plan.new.names (g.S.Store.files c.plan.new.store) c.requires.named c.if-session-ge-NAMES_END.false c.plan.ensures.raised.1 (c.requires.free old told)
     (subst (λ (files : Option Files). KeepsFiles files (g.S.Store.files c.plan.new.store)) told c.plan.ensures.kept)
-    (subst (λ (files : Option Files). LeavesOthers c.args.table.now c.args.session.now.names files (g.S.Store.files c.plan.new.store)) told c.plan.ensures.others)
+    (subst (λ (files : Option Files). PutsDataFiles c.args.table.now c.args.session.now.names files (g.S.Store.files c.plan.new.store)) told c.plan.ensures.others)
     c.in-Ok.planned (c.in-Ok.ensures.planned old told) c.in-Ok-take.ensures.turned c.in-Ok-take.ensures.pending
 
 pub returns-in-Err-clause-others : goal.returns-in-Err-clause-others

@@ -3,8 +3,8 @@ use Rattle.std.proofs.lemmas.Option.{slice_get_past, slice_get_read}
 use Rattle.std.specs.Option.{ForSome}
 use Rattle.sql_statements.specs.Tables.{branch_of}
 use Rattle.sql_statements.specs.declared.statement.Statement.{Statement}
-use Rattle.file_names.specs.declared.names.Names.{Names}
-use Rattle.file_names.specs.FileNames.{NoneFrom}
+use Rattle.table_names.specs.declared.names.Names.{Names}
+use Rattle.table_names.specs.FileNames.{NoneFrom}
 use Rattle.session_machine.specs.declared.place.Phase.TheVariants as phase
 use Rattle.session_steps.proofs.Ends.{all_at, at_hand, by_statement, each_err, free_after, has_version, held_in, if_err, if_ok, nothing, others_after, swap_ends_of, version_missing}
 use Rattle.session_steps.proofs.Faulted as faulted

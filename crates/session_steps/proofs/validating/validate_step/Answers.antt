@@ -2,7 +2,7 @@ use Rattle.std.proofs.Common.{ℤ, List, subst, sym, arith, w64}
 use Rattle.std.proofs.lemmas.Int.{to_z-of_z}
 use Rattle.std.specs.Prelude.{Err}
 use Rattle.manifest_files.specs.declared.entry.Entry.{Entry}
-use Rattle.branch_validation.specs.Validation.{IsValidated}
+use Rattle.branch_commit.specs.Validation.{IsValidated}
 use Rattle.plain_types.specs.Causes.{HasCause}
 use Rattle.commit_builder.specs.NextVersion.{AreNames}
 use Rattle.session_steps.specs.declared.fault.RunFault.{RunFault}

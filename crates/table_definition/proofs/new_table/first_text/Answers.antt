@@ -2,7 +2,7 @@ use Rattle.std.proofs.Common.{ℤ, pos, negsuc, w64, refl, to_z-of_z, arith}
 use Rattle.std.specs.Int.RustNames.{FitsSigned}
 use Rattle.std.proofs.lemmas.Bool.Decides.{nat_tests}
 use Rattle.std.proofs.lemmas.Result.{IfOk-weaker}
-use Rattle.metadata_writer.specs.Fitting.{IsLong}
+use Rattle.iceberg_schema.specs.Widths.{IsLong}
 use Rattle.metadata_writer.specs.NewTable.{made}
 use Rattle.table_definition.specs.Definition.{asked}
 use Rattle.table_definition.proofs.FirstText.{FitsKeys, exact_text, read_text}

@@ -2,7 +2,7 @@ use Rattle.std.proofs.Common.{◌≡◌, ◌-◌, ◌^◌, ℕ, ℤ, pos, negsuc
 use Rattle.std.proofs.lemmas.Bool.Decides.{nat_tests}
 use Rattle.std.specs.Int.RustNames.{FitsSigned}
 use Rattle.serde_json.specs.Data.{Data}
-use Rattle.metadata_writer.specs.Fitting.{IsInt}
+use Rattle.iceberg_schema.specs.Widths.{IsInt}
 use Rattle.metadata_writer.specs.NewTable.{Made}
 use Rattle.table_definition.specs.LastIds.{last_column, last_partition}
 use Rattle.table_definition.proofs.new_table.new_table.Goals as goal
@@ -10,7 +10,8 @@ use Rattle.table_definition.proofs.new_table.new_table.Goals as goal
 abbrev of_parts : List ℕ → List ℕ → Data → ℤ → ℤ → Data → ℤ → Data → ℤ → Made
 of_parts l u s i c f q p n = record { location = l; uuid = u; schema = s; schema_id = i; last_column = c; fields = f; last_partition = q; properties = p; created_ms = n }
 
-same_made : (l u l' u' : List ℕ) (s f p s' f' p' : Data) (i c q n i' c' q' n' : ℤ) → l ≡ l' → u ≡ u' → s ≡ s' → i ≡ i' → c ≡ c' → f ≡ f' → q ≡ q' → p ≡ p' → n ≡ n' → of_parts l u s i c f q p n ≡ of_parts l' u' s' i' c' f' q' p' n'
+same_made : (l u l' u' : List ℕ) (s f p s' f' p' : Data) (i c q n i' c' q' n' : ℤ) → l ≡ l' → u ≡ u' → s ≡ s' → i ≡ i' → c ≡ c'
+    → f ≡ f' → q ≡ q' → p ≡ p' → n ≡ n' → of_parts l u s i c f q p n ≡ of_parts l' u' s' i' c' f' q' p' n'
 same_made l u l' u' s f p s' f' p' i c q n i' c' q' n' e1 e2 e3 e4 e5 e6 e7 e8 e9 = rw (e1, e2, e3, e4, e5, e6, e7, e8, e9) refl
 
 pub returns-clause-made : goal.returns-clause-made

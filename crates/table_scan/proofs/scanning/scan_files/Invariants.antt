@@ -7,7 +7,8 @@ use Rattle.table_scan.proofs.scanning.scan_files.Given as goal
 -- the files that are left, beside those that are scanned, give the same
 abbrev pub invariant-loop-rest : goal.invariant-loop-rest
 invariant-loop-rest g l = record {
-  same : ForSome (g.S.Store.files l.initial.store) (λ files. scanned_from l.state.table (parts l.state.metadata) l.filter l.scanned.items l.rest files ≡ scanned_from l.state.table (parts l.state.metadata) l.filter [] l.entries files);
+  same : ForSome (g.S.Store.files l.initial.store)
+      (λ files. scanned_from l.state.table (parts l.state.metadata) l.filter l.scanned.items l.rest files ≡ scanned_from l.state.table (parts l.state.metadata) l.filter [] l.entries files);
   rows : AreCurrentFiles (parts l.state.metadata) l.scanned.items;
   files : g.S.Store.files l.store ≡ g.S.Store.files l.initial.store;
   faults : g.S.Store.faults l.store ≡ g.S.Store.faults l.initial.store;

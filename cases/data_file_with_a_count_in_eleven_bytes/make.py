@@ -1,0 +1,7 @@
+import json
+
+import tables
+
+SCHEMA = json.dumps(tables.Table(".", "t", tables.COLUMNS).data_schema()).encode()
+DATUMS = b"\x04\x00\x02\x02\x02x"
+tables.write("t/data/a.avro", tables.header(("avro.schema", SCHEMA)) + b"\x84" + b"\x80" * 9 + b"\x00" + tables.block(2, DATUMS)[1:])

@@ -1,0 +1,7 @@
+import json
+
+import tables
+
+OTHER = tables.field(9, "other", {"type": "fixed", "name": "f", "size": 2})
+SCHEMA = json.dumps(tables.record("table", OTHER, tables.field(1, "id", "long"), tables.field(2, "name", tables.optional("string")))).encode()
+tables.write("t/data/a.avro", tables.header(("avro.schema", SCHEMA)) + tables.block(1, b'\x03\x04' + b"\x02\x00"))

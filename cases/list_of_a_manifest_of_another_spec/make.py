@@ -1,0 +1,3 @@
+import tables
+
+tables.plain('.', 't', 's3://lake/t', row_by=lambda row: row.update({"partition_spec_id": 1}))

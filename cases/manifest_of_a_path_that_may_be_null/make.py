@@ -1,0 +1,4 @@
+import tables
+
+tables.field_with(100, tables.ENTRY)["type"] = tables.optional("string")
+tables.plain('.', 't', 's3://lake/t', entry_by=lambda entry: None)

@@ -1,0 +1,3 @@
+import tables
+
+tables.plain('.', 't', 's3://lake/t', entry_by=lambda entry: entry.update({"status": 0, "snapshot_id": 1, "sequence_number": 1, "file_sequence_number": 1}))

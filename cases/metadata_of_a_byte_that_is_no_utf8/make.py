@@ -1,0 +1,3 @@
+import tables
+
+tables.write('t/metadata/v1.metadata.json', b'\xff')

@@ -1,0 +1,3 @@
+import tables
+
+tables.change('t/metadata/v1.metadata.json', lambda metadata: metadata.update({"format-version": 2 ** 64 - 1}))

@@ -1,0 +1,4 @@
+import tables
+
+tables.plain('.', 't', '')
+tables.change('t/metadata/v1.metadata.json', lambda metadata: metadata.update({'location': '/'}))

@@ -1,0 +1,3 @@
+import tables
+
+tables.change('t/metadata/v1.metadata.json', lambda metadata: metadata.update({'location': 's3://lake/other'}))

@@ -1,0 +1,9 @@
+import tables
+
+
+def moved(metadata):
+    metadata["location"] = 's3://lake/t'
+    metadata["snapshots"][0]["manifest-list"] = 's3://lake/t/../t/metadata/snap-1.avro'
+
+
+tables.change("t/metadata/v1.metadata.json", moved)

@@ -1,0 +1,1 @@
+SESSION s; INSERT INTO t VALUES (3, ''), (-7, 'a,"b'), (3, '');

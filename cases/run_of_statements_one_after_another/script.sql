@@ -1,0 +1,6 @@
+SESSION s;
+INSERT INTO t VALUES (1, 'a');
+INSERT INTO t VALUES (2, 'b'), (3, 'c');
+DELETE FROM t WHERE id = 2;
+DELETE FROM t WHERE id = 1;
+INSERT INTO t VALUES (5, 'e');

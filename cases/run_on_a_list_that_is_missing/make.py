@@ -1,0 +1,3 @@
+import os
+
+os.remove('t/metadata/snap-1.avro')

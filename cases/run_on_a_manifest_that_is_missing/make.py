@@ -1,0 +1,3 @@
+import os
+
+os.remove('t/metadata/m1.avro')

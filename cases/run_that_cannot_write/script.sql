@@ -1,0 +1,1 @@
+SESSION s; INSERT INTO t VALUES (1, 'x');

@@ -1,0 +1,4 @@
+SESSION s;
+DELETE FROM t WHERE 
+u
+.id = 1;

@@ -1,0 +1,3 @@
+SESSION s;
+DELETE FROM t WHERE m = 1;
+?

@@ -1,0 +1,3 @@
+import tables
+
+tables.write("script.sql", b"SESSION s;\n".ljust(2 ** 20))

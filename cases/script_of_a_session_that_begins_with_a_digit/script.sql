@@ -1,0 +1,2 @@
+SESSION
+1s;

@@ -1,0 +1,2 @@
+SESSION
+t.s;

@@ -1,0 +1,3 @@
+import tables
+
+tables.write("script.sql", b"SESSION s;\nDELETE FROM t WHERE name =\n'" + b"x" * 131072 + b"';")

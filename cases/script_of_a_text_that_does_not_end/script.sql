@@ -1,0 +1,2 @@
+SESSION s;
+INSERT INTO t VALUES (1, 'x);

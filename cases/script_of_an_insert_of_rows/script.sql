@@ -1,0 +1,3 @@
+SESSION s;
+INSERT INTO t
+ROWS (1, 'x');

@@ -1,0 +1,3 @@
+SESSION s;
+INSERT
+t VALUES (1);

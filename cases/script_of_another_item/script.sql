@@ -1,0 +1,2 @@
+SESSION s;
+FROM t;

@@ -1,0 +1,3 @@
+SESSION s;
+INSERT INTO t VALUES (1, 'x')
+(1);

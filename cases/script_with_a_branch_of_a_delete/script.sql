@@ -1,0 +1,3 @@
+SESSION s;
+DELETE FROM t
+.branch_b;

@@ -1,0 +1,3 @@
+SESSION s;
+INSERT INTO t
+.branch_b VALUES (1);

@@ -1,0 +1,2 @@
+
+SOURCE u (n INT) FROM 'u.csv';

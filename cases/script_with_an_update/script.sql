@@ -1,0 +1,2 @@
+SESSION s;
+UPDATE t SET id = 1;

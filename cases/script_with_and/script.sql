@@ -1,0 +1,3 @@
+SESSION s;
+DELETE FROM t WHERE id = 1
+AND id = 2;

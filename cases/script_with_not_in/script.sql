@@ -1,0 +1,3 @@
+SESSION s;
+DELETE FROM t WHERE id
+NOT IN (1);

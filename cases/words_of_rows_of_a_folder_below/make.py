@@ -1,0 +1,2 @@
+import tables
+tables.plain('.', 'k/t')

@@ -1,3 +1,0 @@
-pub mod BlockCounts
-pub mod CountLaws
-pub mod DatumCounts

@@ -1,5 +1,0 @@
-use Rattle.branch_rows.proofs.BlockCounts.{Counts}
-use Rattle.branch_rows.proofs.blocks.count_blocks.Given as goal
-
-abbrev pub invariant-loop : goal.invariant-loop
-invariant-loop l = Counts l.sync l.bytes l.count l.rest

@@ -1,7 +1,0 @@
-//! How many rows a branch has.
-#![tactic(auto)]
-
-mod blocks;
-mod counting;
-
-pub use counting::count_rows;

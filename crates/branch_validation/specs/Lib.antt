@@ -1,3 +1,0 @@
-pub mod Current
-pub mod Next
-pub mod Validation

@@ -1,0 +1,8 @@
+pub mod CallerLemmas
+mod Conjunction
+mod Every
+mod ExactLaws
+mod Held
+mod ListedLaws
+mod NumberLaws
+mod ValueOrder

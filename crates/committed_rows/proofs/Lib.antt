@@ -1,4 +1,0 @@
-pub mod Committed
-pub mod FalseFilter
-pub mod Loads
-pub mod RowsRead

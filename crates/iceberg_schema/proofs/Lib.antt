@@ -1,0 +1,5 @@
+pub mod CallerLemmas
+mod Items
+mod NoFloats
+mod SchemaSoundness
+mod SpecSoundness

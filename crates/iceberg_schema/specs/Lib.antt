@@ -1,0 +1,10 @@
+pub mod Keys
+pub mod KindText
+pub mod SchemaData
+pub mod SchemaJson
+pub mod SoundSchema
+pub mod SoundSpec
+pub mod SpecData
+pub mod SpecJson
+pub mod TransformText
+pub mod Widths

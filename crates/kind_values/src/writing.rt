@@ -1,0 +1,32 @@
+//! Writes a bound.
+ghost use Rattle.std.specs.Prelude.{◌≡◌, ◌++◌, OnOk};
+ghost use Rattle.kind_values.specs.Bounds.{bytes_of};
+
+use crate::big_endian::write_signed;
+use crate::little_endian::{write_int, write_long};
+use row_values::Value;
+use std::alloc::AllocError;
+
+/// Appends the bytes of the value, which NULL has none of.
+pub fn write_bound(value: &Value, out: &mut Vec<u8>) -> Result<(), AllocError>
+    ensures { OnOk result (out.new.items ≡ out.old.items ++ bytes_of value.now) }
+{
+    match value {
+        Value::Null => Ok(()),
+        Value::Bool(b) => write_bool(*b, out),
+        Value::Int(n) => write_int(*n, out),
+        Value::Long(n) => write_long(*n, out),
+        Value::Date(days) => write_int(*days, out),
+        Value::Timestamp(micros) => write_long(*micros, out),
+        Value::Decimal { unscaled, .. } => write_signed(*unscaled, out),
+        Value::Text(text) => out.extend_from_slice(text.as_bytes()),
+        Value::Bytes(bytes) => out.extend_from_slice(bytes.as_slice()),
+    }
+}
+
+fn write_bool(b: bool, out: &mut Vec<u8>) -> Result<(), AllocError>
+    ensures { OnOk result (out.new.items ≡ out.old.items ++ bytes_of (Value.Bool b)) }
+{
+    out.push(if b { 1 } else { 0 })?;
+    Ok(())
+}

@@ -1,4 +1,0 @@
-pub mod Field
-pub mod KindDatum
-pub mod KindTypes
-pub mod Names

@@ -1,5 +1,0 @@
-use Rattle.laid_rows.proofs.Rows.{same_rows}
-use Rattle.laid_rows.proofs.laws.rows_of_files_are_a_bag.Goals as goal
-
-pub returns : goal.returns
-returns c = λ table parts files others entries rows same read. same_rows table parts files others entries rows same read

@@ -1,4 +1,0 @@
-pub mod ContainerFits
-pub mod EntriesAgain
-pub mod Fitting
-pub mod RowsAgain

@@ -1,5 +1,0 @@
-pub mod Conjunction
-pub mod ExactLaws
-pub mod ListedLaws
-pub mod NumberLaws
-pub mod ValueOrder

@@ -1,9 +1,0 @@
-use Rattle.std.proofs.Common.{◌≡◌, None, length, option_map}
-use Rattle.manifest_rows.specs.Rows.{outermost_from}
-use Rattle.manifest_rows.proofs.summary.extreme_at.Given as goal
-
-abbrev pub invariant-loop-rest : goal.invariant-loop-rest
-invariant-loop-rest l = outermost_from l.side l.place (option_map (λ v. v.now) l.best) l.rest ≡ outermost_from l.side l.place None l.entries
-
-abbrev pub decreases-loop-rest : goal.decreases-loop-rest
-decreases-loop-rest l = length l.rest

@@ -1,4 +1,0 @@
-pub mod Amounts
-pub mod Fewest
-pub mod Steps
-pub mod Written

@@ -1,5 +1,0 @@
-use Rattle.open_commits.proofs.NextOpen.{stays_open}
-use Rattle.open_commits.proofs.laws.a_committed_statement_keeps_the_table_open.Goals as goal
-
-pub returns : goal.returns
-returns c = λ table schema sources s files later current pending prepared was main is stands keeps others. stays_open table schema sources s files later current pending prepared was main is stands keeps others

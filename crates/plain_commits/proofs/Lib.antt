@@ -1,4 +1,0 @@
-pub mod Adding
-pub mod Numbers
-pub mod PlainForm
-pub mod Rewriting

@@ -1,5 +1,0 @@
-use Rattle.plain_commits.proofs.Numbers.{has_numbers}
-use Rattle.plain_commits.proofs.laws.a_table_has_numbers.Goals as goal
-
-pub returns : goal.returns
-returns c = λ head now version files is small hour few. has_numbers head now version files is small hour few

@@ -1,6 +1,0 @@
-use Rattle.std.proofs.Common.{◌∙◌}
-use Rattle.report_lines.proofs.Escaping.{replaced}
-use Rattle.report_lines.proofs.lines.one_line.Goals as goal
-
-pub returns : goal.returns
-returns c = c.from_string.ensures ∙ replaced _ _ _ c.in_ok-replace.ensures.ok.1

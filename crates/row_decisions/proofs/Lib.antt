@@ -1,3 +1,0 @@
-pub mod HitLaws
-pub mod HitSteps
-pub mod MadeLaws

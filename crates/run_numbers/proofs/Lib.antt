@@ -1,2 +1,0 @@
-mod LeastMissing
-mod RunNames

@@ -1,5 +1,0 @@
-use Rattle.run_numbers.proofs.RunNames.{free_names}
-use Rattle.run_numbers.proofs.laws.a_fresh_run_has_free_names.Goals as goal
-
-pub returns : goal.returns
-returns c = λ table session run from files free. free_names table session run from files free

@@ -1,0 +1,25 @@
+ghost use Rattle.std.specs.Prelude.{◌≡◌, ◌++◌, OnOk};
+ghost use Rattle.run_report.specs.Escapes.{escaped, escaped_byte};
+
+use std::alloc::AllocError;
+
+/// Appends the text, in which a line feed is written as the two characters `\n`.
+pub fn push_escaped(bytes: &mut Vec<u8>, text: &[u8]) -> Result<(), AllocError>
+    ensures { OnOk result (bytes.new.items ≡ bytes.old.items ++ escaped text.now) }
+{
+    for byte in text {
+        push_byte(bytes, *byte)?;
+    }
+    Ok(())
+}
+
+fn push_byte(bytes: &mut Vec<u8>, byte: u8) -> Result<(), AllocError>
+    ensures { OnOk result (bytes.new.items ≡ bytes.old.items ++ escaped_byte byte) }
+{
+    if byte == b'\n' {
+        bytes.extend_from_slice(b"\\n")
+    } else {
+        bytes.push(byte)?;
+        Ok(())
+    }
+}

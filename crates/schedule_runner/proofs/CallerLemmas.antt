@@ -1,0 +1,4 @@
+-- What other crates cite of the proofs here, by topic.
+
+-- A session is run on until it is finished or stopped.
+pub use Rattle.schedule_runner.proofs.Outcomes.{unbegun}

@@ -1,0 +1,12 @@
+mod BlockCounts
+pub mod CallerLemmas
+mod CountLaws
+mod DatumCounts
+mod Outcomes
+mod ReadScripts
+mod RunLaws
+mod RunningLaws
+mod SerialLaws
+mod StepLaws
+mod TurnLaws
+mod Unbegun

@@ -1,0 +1,5 @@
+pub mod Outcome
+pub mod Rows
+pub mod Running
+pub mod Runs
+pub mod Scripts

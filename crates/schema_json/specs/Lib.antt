@@ -1,2 +1,0 @@
-pub mod SchemaData
-pub mod SpecData

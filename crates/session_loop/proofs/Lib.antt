@@ -1,4 +1,0 @@
-pub mod Outcomes
-pub mod ReadScripts
-pub mod StepLaws
-pub mod Unbegun

@@ -1,4 +1,0 @@
-pub mod RunLaws
-pub mod RunningLaws
-pub mod SerialLaws
-pub mod TurnLaws

@@ -1,6 +1,0 @@
-use Rattle.session_runs.proofs.RunningLaws.{ends}
-use Rattle.session_runs.proofs.laws.a_step_that_fails_ends_a_run.Goals as goal
-
-pub returns : goal.returns
-returns c = λ table schema sources statements start old new first place begun session steps s fault changes main kept running at_hand either.
-    ends table schema sources statements changes main start first place begun old new kept session steps running s at_hand fault either

@@ -1,2 +1,0 @@
-pub mod NoVersions
-pub mod StaysOpen

@@ -1,5 +1,0 @@
-use Rattle.sound_metadata.proofs.Sound.{sound}
-use Rattle.sound_metadata.proofs.laws.what_is_read_is_sound.Goals as goal
-
-pub returns : goal.returns
-returns c = sound

@@ -1,3 +1,0 @@
-pub mod GatheringLaws
-pub mod LoadingLaws
-pub mod Parting

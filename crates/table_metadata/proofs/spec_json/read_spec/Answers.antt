@@ -1,9 +1,0 @@
-use Rattle.std.proofs.Common.{rules}
-use Rattle.serde_json.specs.View.{view}
-use Rattle.table_metadata.specs.SpecJson.{spec_of}
-use Rattle.table_metadata.proofs.SpecSoundness.{sound_spec}
-use Rattle.table_metadata.proofs.spec_json.read_spec.Goals as goal
-
-pub returns-clause-sound : goal.returns-clause-sound
-unfolding spec_of
-returns-clause-sound c = sound_spec c.args.schema.now.columns (view c.args.json.now) _ (search rules)

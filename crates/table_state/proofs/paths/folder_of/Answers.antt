@@ -1,6 +1,0 @@
-use Rattle.table_state.proofs.Folders.{stands}
-use Rattle.table_state.proofs.paths.folder_of.Goals as goal
-
--- src/head.rt:59:1
-pub returns-in-None : goal.returns-in-None
-returns-in-None c = stands c.args.location.now c.in-None.ensures.cases

@@ -1,0 +1,111 @@
+// The live files of manifests, as they are read.
+ghost use Rattle.std.specs.Prelude.{◌≡◌, ◌≢◌, ◌<◌, [], ◌∷◌, ◌++◌, Ok, Err, IfOk, IfErr, IsErrOf, OnOk};
+ghost use Rattle.std.specs.Option.{ForSome};
+ghost use Rattle.plain_types.specs.Causes.{HasCause};
+ghost use Rattle.table_metadata.specs.Metadata.{parts};
+ghost use Rattle.table_state.specs.Gathering.{gathered_at, live_data, live_deletes, nothing, seen};
+
+use crate::files::read_manifest_at;
+use crate::load_fault::LoadFault;
+use crate::state::LiveCount;
+use manifest_files::{Content, Entry, ManifestRow};
+use plain_types::List;
+use std::alloc::{AllocError, Global};
+use store_core::Store;
+use table_metadata::Metadata;
+
+// The live files so far, and how many each manifest holds.
+#[derive(Drop)]
+pub(crate) struct Gathered {
+    pub(crate) data_files: Vec<Entry>,
+    pub(crate) deletes: Vec<Entry>,
+    pub(crate) counts: Vec<LiveCount>,
+}
+
+impl Gathered {
+    ghost use Rattle.std.specs.Prelude.{◌≡◌, OnOk};
+    ghost use Rattle.table_state.specs.Gathering.{and_manifest, nothing, seen};
+
+    pub(crate) fn new(alloc: Global) -> Gathered
+        ensures { seen result ≡ nothing }
+    {
+        Gathered {
+            data_files: Vec::new(alloc),
+            deletes: Vec::new(alloc),
+            counts: Vec::new(alloc),
+        }
+    }
+
+    // Takes what the entries of one more manifest hold live.
+    fn add(&mut self, entries: List<Entry>) -> Result<(), AllocError>
+        ensures { OnOk result (seen self.new ≡ and_manifest (seen self.old) entries) }
+    {
+        let data_files = self.data_files.len();
+        let deletes = self.deletes.len();
+        move_live(entries, &mut self.data_files, &mut self.deletes)?;
+        self.counts.push(LiveCount {
+            data_files: self.data_files.len().saturating_sub(data_files),
+            deletes: self.deletes.len().saturating_sub(deletes),
+        })?;
+        Ok(())
+    }
+}
+
+fn move_live(
+    entries: List<Entry>,
+    data_files: &mut Vec<Entry>,
+    deletes: &mut Vec<Entry>,
+) -> Result<(), AllocError>
+    ensures data_files { OnOk result (data_files.new.items ≡ data_files.old.items ++ live_data entries) }
+    ensures deletes { OnOk result (deletes.new.items ≡ deletes.old.items ++ live_deletes entries) }
+{
+    for entry in entries.into_vec() {
+        place(entry, data_files, deletes)?;
+    }
+    Ok(())
+}
+
+fn place(
+    entry: Entry,
+    data_files: &mut Vec<Entry>,
+    deletes: &mut Vec<Entry>,
+) -> Result<(), AllocError>
+    ensures data_files { OnOk result (data_files.new.items ≡ data_files.old.items ++ live_data (entry ∷ [])) }
+    ensures deletes { OnOk result (deletes.new.items ≡ deletes.old.items ++ live_deletes (entry ∷ [])) }
+{
+    if entry.status >= 2 {
+        return Ok(());
+    }
+    match entry.content {
+        Content::Data => data_files.push(entry)?,
+        Content::PositionDeletes | Content::EqualityDeletes => deletes.push(entry)?,
+    }
+    Ok(())
+}
+
+// What the manifests of these rows hold live.
+#[tactic(auto, unfolding(crate::specs::Gathering::gathered_at))]
+pub(crate) fn gather<S: Store>(
+    alloc: Global,
+    store: &mut S,
+    table: &str,
+    metadata: &Metadata,
+    rows: &[ManifestRow],
+) -> Result<Gathered, LoadFault>
+    ensures ok { IfOk result (λ gathered. ForSome (S.files store.old)
+        (λ files. gathered_at table.now (parts metadata.now) nothing rows.now files ≡ Ok (seen gathered))) }
+    ensures err { IfErr result (λ f. f ≢ LoadFault.Store → f ≢ LoadFault.Memory
+        → ForSome (S.files store.old) (λ files. gathered_at table.now (parts metadata.now) nothing rows.now files ≡ Err f)) }
+    ensures files { S.files store.new ≡ S.files store.old }
+    ensures unsettled { IsErrOf result LoadFault.Store → 0 < S.unsettled store.new }
+    ensures cause { HasCause LoadFault.Store LoadFault.Memory (S.faults store.old) (S.faults store.new) result }
+{
+    let mut gathered = Gathered::new(alloc);
+    let mut rest = rows;
+    while let [row, after @ ..] = rest {
+        let entries = read_manifest_at(alloc, store, table, metadata, row)?;
+        gathered.add(entries)?;
+        rest = after;
+    }
+    Ok(gathered)
+}

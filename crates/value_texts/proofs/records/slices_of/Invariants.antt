@@ -1,5 +1,0 @@
-use Rattle.std.proofs.Common.{◌≡◌, map, take}
-use Rattle.value_texts.proofs.records.slices_of.Given as goal
-
-abbrev pub invariant-loop-field : goal.invariant-loop-field
-invariant-loop-field l = map (λ s. s.now) l.slices.items ≡ map (λ f. f.items) (take l.field-index l.fields)
