@@ -15,5 +15,9 @@ live_count (state.Head snapshot manifests live) = length live.data_files + lengt
 abbrev pub has_room : State → Bool
 has_room state = nat_lt (length state.metadata.snapshots + live_count state.head) (2 ^ 62)
 
+-- Neither number is the last one.
+abbrev pub has_numbers : State → Bool
+has_numbers state = nat_lt state.version (2 ^ 32 - 1) && int_lt state.metadata.last_sequence last
+
 abbrev pub has_next : State → Bool
 has_next state = nat_lt state.version (2 ^ 32 - 1) && (int_lt state.metadata.last_sequence last && has_room state)

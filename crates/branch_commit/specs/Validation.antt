@@ -22,7 +22,7 @@ use Rattle.branch_commit.specs.declared.found.Found.{Found}
 use Rattle.branch_commit.specs.declared.found.Found.TheVariants as finding
 use Rattle.branch_commit.specs.declared.found.Validated.{Validated}
 use Rattle.branch_commit.specs.Current.{IsCurrent, current_branch}
-use Rattle.branch_commit.specs.Next.{has_next}
+use Rattle.branch_commit.specs.Next.{has_next, has_numbers}
 
 -- No file is added and none is removed.
 abbrev pub is_no_change : ChangeSet → Bool
@@ -62,7 +62,8 @@ module _ (plan : Plan) (change : ChangeSet) (base : List Entry) (names : Names) 
     pub at : validated.version ≡ head.version
     pub is : IsFound head old new after validated.found
 
--- The branch can't be loaded, or there is no version behind the current one.
+-- The branch can't be loaded, or the current version or its sequence number is the last one. Of the store's failures and of want of
+-- memory, where there may be no room for an id too, the files say nothing.
 abbrev pub CannotValidate : List ℕ → List ℕ → Files → CommitFault → Type 0
 CannotValidate table branch old (fault.Load f) = f ≢ load.Store → f ≢ load.Memory → current_branch table branch old ≡ Err f
-CannotValidate table branch old (fault.Limit name) = (head : State) × IsCurrent table branch old head × (has_next head ≡ false) × (name ≡ version_name table head.version)
+CannotValidate table branch old (fault.Limit name) = (head : State) × IsCurrent table branch old head × (has_numbers head ≡ false) × (name ≡ version_name table head.version)

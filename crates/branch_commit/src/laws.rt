@@ -25,7 +25,9 @@ ghost use Rattle.branch_commit.specs.Committing.{IsPlanned, IsPrepared, IsWritte
 /// A statement that was planned on the current version of its branch and is not refused there: once the version that its commit
 /// prepares stands under its name, the branch has there, as a bag, the rows that the statement leaves of those it had.
 pub fn a_committed_statement_leaves_its_rows()
-    ensures { (base head : Loaded) (sources : Seq Source) (s : Statement) (scanned : Seq ScannedFile) (names drawn : Drawn) (now : ℤ) (planned written ready later : Files) (prepared : Prepared) (rows : Seq (Seq Value)) → head.table ≡ base.table → head.version ≡ base.version → head.branch ≡ base.branch
+    ensures { (base head : Loaded) (sources : Seq Source) (s : Statement) (scanned : Seq ScannedFile) (names drawn : Drawn)
+        (now : ℤ) (planned written ready later : Files) (prepared : Prepared) (rows : Seq (Seq Value)) → head.table ≡ base.table
+        → head.version ≡ base.version → head.branch ≡ base.branch
         → IsPlanned base sources s scanned planned → IsWritten base sources s scanned names planned written
         → KeepsFiles (Some planned) (Some written) → KeepsFiles (Some written) (Some ready)
         → IsPrepared head (change_by base scanned sources s names) drawn now ready prepared

@@ -1,6 +1,6 @@
 //! Whether a version can have a next one.
 ghost use Rattle.std.specs.Prelude.{◌≡◌, ◌<◌, ◌^◌};
-ghost use Rattle.branch_commit.specs.Next.{has_next, has_room, live_count};
+ghost use Rattle.branch_commit.specs.Next.{has_next, has_numbers, has_room, live_count};
 
 use table_state::{BranchState, State};
 
@@ -31,6 +31,13 @@ fn has_room(state: &State) -> bool
     ensures { result ≡ has_room state.now }
 {
     state.metadata.snapshots.len() as u128 + live_count(&state.head) < IDS_END
+}
+
+/// Whether there is a next version and a next sequence number.
+pub(crate) fn has_numbers(state: &State) -> bool
+    ensures { result ≡ has_numbers state.now }
+{
+    state.version < LAST_VERSION && state.metadata.last_sequence < LAST_SEQUENCE
 }
 
 /// Whether there is a next version, a next sequence number and an id for its snapshot.

@@ -10,7 +10,7 @@ ghost use Rattle.branch_commit.specs.Validation.{CannotValidate, IsFound, IsLaid
 
 use crate::current::load_current;
 use crate::found::{CommitFault, Found, Validated};
-use crate::next::has_next;
+use crate::next::{has_next, has_numbers};
 use change_sets::{ChangeSet, Plan, Said, verdict};
 use commit_builder::prepare;
 use manifest_files::Entry;
@@ -128,9 +128,12 @@ pub fn validate<S: Store>(
         Err(fault) => return Err(CommitFault::Load(fault)),
     };
     let version = head.version;
-    if !has_next(&head) {
+    if !has_numbers(&head) {
         let name = version_name(alloc, table, version)?;
         return Err(CommitFault::Limit(Text::from_string(name)));
+    }
+    if !has_next(&head) {
+        return Err(CommitFault::Load(LoadFault::Memory));
     }
     match find(alloc, store, &head, plan, change, base, names, now_ms) {
         Ok(found) => Ok(Validated { version, found }),

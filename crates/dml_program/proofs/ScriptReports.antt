@@ -6,7 +6,6 @@ use Rattle.plain_types.specs.Steps.{◌>>=◌, or_fault}
 use Rattle.row_values.specs.declared.schema.TableSchema.{TableSchema}
 use Rattle.store_core.specs.Files.{Files}
 use Rattle.store_core.specs.Written.{appended}
-use Rattle.table_names.specs.declared.names.Names.{Names}
 use Rattle.session_machine.specs.declared.event.Stepped.{Stepped}
 use Rattle.command_line.specs.Words.{Wanted, rows, create, run}
 use Rattle.table_state.specs.declared.load_fault.LoadFault.{LoadFault}
@@ -16,10 +15,10 @@ use Rattle.schedule_runner.specs.Rows.{current_rows}
 use Rattle.session_steps.specs.Open.{IsOpen}
 use Rattle.session_steps.specs.declared.fault.RunFault.{RunFault}
 use Rattle.session_steps.specs.declared.fault.RunFault.TheVariants as fault
-use Rattle.session_steps.specs.Steps.{LeavesOthers}
 use Rattle.schedule_runner.specs.Outcome.{IsOutcome, first_place}
-use Rattle.schedule_runner.proofs.CallerLemmas.{unbegun}
-use Rattle.schedule_runner.specs.Scripts.{statements_in}
+use Rattle.schedule_runner.proofs.CallerLemmas.{outcome_wider, unbegun}
+use Rattle.schedule_runner.specs.Adding.{AddsAtMost}
+use Rattle.schedule_runner.specs.Scripts.{name_in, statements_in}
 use Rattle.dml_program.specs.declared.begin.Begun.{Begun}
 use Rattle.dml_program.specs.declared.status.Status.{Status}
 use Rattle.dml_program.specs.declared.status.Status.TheVariants as status
@@ -28,7 +27,7 @@ use Rattle.dml_program.specs.Beginning.{begun_of}
 use Rattle.dml_program.specs.Causes.{HasInputCause, HasStoreCause, IsSettled, IsSettledBy, IsUnbegun}
 use Rattle.dml_program.specs.Creating.{StopsAt}
 use Rattle.dml_program.specs.Opening.{load_status}
-use Rattle.dml_program.specs.ScriptRuns.{IsBroken, IsRan, IsRunEnd, IsTold, IsUnread, IsWhole, OfRun, names_in, status_of_fault, status_of_steps}
+use Rattle.dml_program.specs.ScriptRuns.{HasEnded, IsBroken, IsRan, IsRunEnd, IsTold, IsUnread, IsWhole, OfRun, names_in, status_of_fault, status_of_steps}
 use Rattle.run_report.specs.Report.{lines_of_branch, lines_of_steps}
 use Rattle.row_values.specs.declared.value.Value.{Value}
 use Rattle.dml_program.specs.Statuses.{fault_lines}
@@ -68,25 +67,26 @@ later_cause (status.InputFailed name) before middle now unsettled known later ca
 later_cause status.OutputFailed before middle now unsettled known later cause = tt
 later_cause status.Memory before middle now unsettled known later cause = tt
 
--- the names that it leaves as they were, of files that are told
-pub others_told : (table : List ℕ) (names : Names) (old new : Option Files) (start files : Files) → old ≡ Some start
-    → new ≡ Some files → LeavesOthers table names old new → LeavesOthers table names (Some start) (Some files)
-others_told table names old new start files is made others = subst (LeavesOthers table names (Some start)) made (subst (λ (o : Option Files). LeavesOthers table names o new) is others)
+-- what is told of the files that are left, under another name of them
+pub adds_told : (table session : List ℕ) (new : Option Files) (start files other : Files) → new ≡ Some files → new ≡ Some other
+    → AddsAtMost table session start other → AddsAtMost table session start files
+adds_told table session new start files other is made adds = let same : other ≡ files = cc in subst (AddsAtMost table session start) same adds
 
 -- a run that began, by what was made of it and what was told
 pub ran : (table : List ℕ) (begun : Begun) (start files : Files) (was : IsOpen table begun.schema start begun.version)
-    (steps told_steps : List Stepped) (ended told_ended : Option RunFault) (result : Status) (old new : Option (List ℕ))
-    (before now : ℕ)
-    → ended ≡ told_ended → told_steps ≡ steps → IsOutcome table begun.schema [] (statements_in begun.script) start begun.version (first_place 0) was files steps ended → IsTold table (names_in begun.script) files told_steps told_ended result old new before now
-    → (names : Names) → LeavesOthers table names (Some start) (Some files) → IsRan table begun start files result old new before now
-ran table begun start files was steps told_steps ended told_ended result old new before now is told outcome report names others = record {
+    (steps told_steps : List Stepped) (ended told_ended : Option RunFault) (failed fails later : ℕ) (result : Status)
+    (old new : Option (List ℕ)) (before now : ℕ)
+    → fails ≤ later → ended ≡ told_ended → told_steps ≡ steps → IsOutcome table begun.schema [] (statements_in begun.script) start begun.version (first_place 0) was files steps failed fails ended → IsTold table (names_in begun.script) files told_steps told_ended result old new before now
+    → AddsAtMost table (name_in begun.script) start files → IsRan table begun start files failed later result old new before now
+ran table begun start files was steps told_steps ended told_ended failed fails later result old new before now above is told outcome report adds = record {
   was = was;
   steps = steps;
   ended = told_ended;
-  outcome = subst (IsOutcome table begun.schema [] (statements_in begun.script) start begun.version (first_place 0) was files steps) is outcome;
+  outcome =
+      outcome_wider table begun.schema [] (statements_in begun.script) start begun.version (first_place 0) was files steps failed failed fails later told_ended (omega arith) above
+      (subst (IsOutcome table begun.schema [] (statements_in begun.script) start begun.version (first_place 0) was files steps failed fails) is outcome);
   report = subst (λ (xs : List Stepped). IsTold table (names_in begun.script) files xs told_ended result old new before now) told report;
-  names = names;
-  others = others;
+  adds = adds;
 }
 
 -- ---- a run that could not begin
@@ -174,34 +174,29 @@ unbegun_is_fault status.Usage u = absurd u
 unbegun_is_fault status.OutputFailed u = absurd u
 unbegun_is_fault (status.StateUnknown session number) u = absurd u
 
-abbrev no_names : Names
-no_names = record { run = 0; session = []; next = 0 }
-
 -- a run that would have begun, but for the store, the input or memory
-module _ (table name : List ℕ) (files inputs : Files) (begun : Begun) (is : begun_of table name files inputs ≡ Ok begun) (old new : Option (List ℕ)) (before now : ℕ) where
+module _ (table name : List ℕ) (files inputs : Files) (begun : Begun) (is : begun_of table name files inputs ≡ Ok begun) (failed fails : ℕ) (old new : Option (List ℕ)) (before now : ℕ) where
   opened : IsOpen table begun.schema files begun.version
   opened = begins_open table files name inputs begun is
 
-  pub store_failed : Writes (fault_lines status.StoreFailed) old new before now → IsRan table begun files files status.StoreFailed old new before now
+  pub store_failed : Writes (fault_lines status.StoreFailed) old new before now → IsRan table begun files files failed fails status.StoreFailed old new before now
   store_failed writes = record {
     was = opened;
     steps = [];
     ended = Some fault.Store;
-    outcome = unbegun table begun.schema [] (statements_in begun.script) files begun.version (first_place 0) opened fault.Store tt tt;
-    report = inr (status.StoreFailed, fault_lines status.StoreFailed, (refl, refl), writes, inl refl);
-    names = no_names;
-    others = λ name no_data no_metadata no_version. refl;
+    outcome = unbegun table begun.schema [] (statements_in begun.script) files begun.version (first_place 0) opened failed fails fault.Store tt tt;
+    report = inr (status.StoreFailed, fault_lines status.StoreFailed, (refl, refl), writes, (λ ended. absurd ended), inl refl);
+    adds = inl refl;
   }
 
-  pub memory_out : new ≡ old → IsRan table begun files files status.Memory old new before now
+  pub memory_out : new ≡ old → IsRan table begun files files failed fails status.Memory old new before now
   memory_out same = record {
     was = opened;
     steps = [];
     ended = Some fault.Memory;
-    outcome = unbegun table begun.schema [] (statements_in begun.script) files begun.version (first_place 0) opened fault.Memory tt tt;
+    outcome = unbegun table begun.schema [] (statements_in begun.script) files begun.version (first_place 0) opened failed fails fault.Memory tt tt;
     report = inl (refl, same);
-    names = no_names;
-    others = λ name no_data no_metadata no_version. refl;
+    adds = inl refl;
   }
 
 -- no byte was written
@@ -222,22 +217,22 @@ nothing_written old new before now (inl whole) = whole ∙ nothing_more old
 nothing_written old new before now (inr front) = front.0.2 ∙ ap (λ (bytes : List ℕ). appended bytes old) (none_taken front.0.0) ∙ nothing_more old
 
 -- what a run leaves that could not begin
-module _ (files : Files) (old new : Option (List ℕ)) (before now : ℕ) (left : Option Files) (failed_before failed_now : ℕ) where
+module _ (files : Files) (failed fails : ℕ) (old new : Option (List ℕ)) (before now : ℕ) (left : Option Files) (failed_before failed_now : ℕ) where
   abbrev Held : List ℕ → Begun → Status → Type 0
-  Held table begun t = IsUnread t failed_before failed_now files left ⊎ ((n : Files) × (left ≡ Some n) × IsRan table begun files n t old new before now)
+  Held table begun t = IsUnread t failed_before failed_now files left ⊎ ((n : Files) × (left ≡ Some n) × IsRan table begun files n failed fails t old new before now)
 
   module _ (table name : List ℕ) (inputs : Files) (same : left ≡ Some files) where
     out_of_memory : (begun : Begun) → begun_of table name files inputs ≡ Ok begun → (t : Status) → t ≡ status.Memory
         → Writes (fault_lines t) old new before now → Held table begun t
     out_of_memory begun e t m w =
-        subst (Held table begun) (sym m) (inr (files, same, memory_out table name files inputs begun e old new before now (nothing_written old new before now (subst (λ (u : Status). Writes (fault_lines u) old new before now) m w))))
+        subst (Held table begun) (sym m) (inr (files, same, memory_out table name files inputs begun e failed fails old new before now (nothing_written old new before now (subst (λ (u : Status). Writes (fault_lines u) old new before now) m w))))
 
     by_status : (begun : Begun) → begun_of table name files inputs ≡ Ok begun → (t : Status)
         → StopsAt {A = Begun} (Rose failed_before failed_now) (Ok begun) t → IsUnbegun t → Writes (fault_lines t) old new before now
         → Held table begun t
     by_status begun e (status.ScriptBad line k) stopped u w = absurd cc
     by_status begun e (status.TableBad k path) stopped u w = absurd cc
-    by_status begun e status.StoreFailed stopped u w = inr (files, same, store_failed table name files inputs begun e old new before now w)
+    by_status begun e status.StoreFailed stopped u w = inr (files, same, store_failed table name files inputs begun e failed fails old new before now w)
     by_status begun e (status.InputFailed input) (inl f) u w = inl (f, same)
     by_status begun e (status.InputFailed input) (inr wrong) u w = absurd cc
     by_status begun e status.Memory stopped u w = out_of_memory begun e status.Memory refl w
@@ -265,7 +260,7 @@ module _ (files : Files) (old new : Option (List ℕ)) (before now : ℕ) (left 
     unbegun_runs s result stops kind is writes = by_result (begun_of table name files inputs) refl s result stops kind is writes
 
     memory_by : (r : Result Begun Status) → begun_of table name files inputs ≡ r → new ≡ old → IfOk r (λ begun. Held table begun status.Memory)
-    memory_by (Ok begun) e nothing = inr (files, same, memory_out table name files inputs begun e old new before now nothing)
+    memory_by (Ok begun) e nothing = inr (files, same, memory_out table name files inputs begun e failed fails old new before now nothing)
     memory_by (Err reason) e nothing = tt
 
     -- where memory ran out
@@ -293,6 +288,27 @@ pub written_is_no_fault : (s : Status) → (s ≡ status.Done) ⊎ (s ≡ status
 written_is_no_fault s (inl e) fault = subst IsFault e fault
 written_is_no_fault s (inr e) fault = subst IsFault e fault
 
+pub ended_is_done : (s : Status) → (s ≡ status.Done) ⊎ (s ≡ status.OutputFailed) → HasEnded s → s ≡ status.Done
+ended_is_done s (inl e) ended = e
+ended_is_done s (inr e) ended = absurd (subst HasEnded e ended)
+
+fault_goes_on : (s : Status) → IsFault s → HasEnded s → ⊥
+fault_goes_on status.Done fault ended = fault
+fault_goes_on status.Refused fault ended = fault
+fault_goes_on status.Usage fault ended = ended
+fault_goes_on (status.ScriptBad line sort) fault ended = ended
+fault_goes_on (status.TableBad kind path) fault ended = ended
+fault_goes_on status.StoreFailed fault ended = ended
+fault_goes_on (status.InputFailed name) fault ended = ended
+fault_goes_on status.OutputFailed fault ended = ended
+fault_goes_on (status.StateUnknown session number) fault ended = ended
+fault_goes_on status.Memory fault ended = ended
+
+-- a call whose fault was written has not ended
+pub told_is_no_end : (s result : Status) → IsFault s → (result ≡ s) ⊎ (result ≡ status.Memory) → HasEnded result → ⊥
+told_is_no_end s result fault (inl e) ended = fault_goes_on s fault (subst HasEnded e ended)
+told_is_no_end s result fault (inr e) ended = subst HasEnded e ended
+
 pub settled_by : (d : Option Wanted) (before now unsettled : ℕ) → IsSettled before now unsettled → IsSettledBy d before now unsettled
 settled_by None before now unsettled settled = settled
 settled_by (Some (rows table)) before now unsettled settled = settled
@@ -308,12 +324,13 @@ none_run (Some (run table script)) files given holds nothing = absurd nothing
 pub no_run : (d : Option Wanted) → d ≡ None → (files given : Option Files) (holds : List ℕ → Begun → Files → Type 0) → OfRun d files given holds
 no_run d none files given holds = subst (λ (e : Option Wanted). OfRun e files given holds) (sym none) tt
 
-pub memory_of_run : (d : Option Wanted) (files given : Option Files) (failed_before failed_now : ℕ) (old : Option (List ℕ)) (before now : ℕ)
-    → OfRun d files given (λ table begun f. IsUnread status.Memory failed_before failed_now f files ⊎ ((n : Files) × (files ≡ Some n) × IsRan table begun f n status.Memory old old before now))
-memory_of_run None files given failed_before failed_now old before now = tt
-memory_of_run (Some (rows table)) files given failed_before failed_now old before now = tt
-memory_of_run (Some (create table schema)) files given failed_before failed_now old before now = tt
-memory_of_run (Some (run table script)) files given failed_before failed_now old before now = λ f told g inputs. memory_runs f old old before now files failed_before failed_now table script g told refl
+pub memory_of_run : (d : Option Wanted) (files given : Option Files) (failed fails failed_before failed_now : ℕ)
+    (old : Option (List ℕ)) (before now : ℕ)
+    → OfRun d files given (λ table begun f. IsUnread status.Memory failed_before failed_now f files ⊎ ((n : Files) × (files ≡ Some n) × IsRan table begun f n failed fails status.Memory old old before now))
+memory_of_run None files given failed fails failed_before failed_now old before now = tt
+memory_of_run (Some (rows table)) files given failed fails failed_before failed_now old before now = tt
+memory_of_run (Some (create table schema)) files given failed fails failed_before failed_now old before now = tt
+memory_of_run (Some (run table script)) files given failed fails failed_before failed_now old before now = λ f told g inputs. memory_runs f failed fails old old before now files failed_before failed_now table script g told refl
 
 -- ---- no command
 

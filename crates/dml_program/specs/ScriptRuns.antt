@@ -6,7 +6,7 @@ use Rattle.std.specs.Option.{ForSome}
 use Rattle.plain_types.specs.Causes.{Rose}
 use Rattle.row_values.specs.declared.value.Value.{Value}
 use Rattle.store_core.specs.Files.{Files}
-use Rattle.table_names.specs.declared.names.Names.{Names}
+use Rattle.store_core.specs.Written.{appended}
 use Rattle.session_machine.specs.declared.event.Stepped.{Stepped}
 use Rattle.run_report.specs.Report.{is_refused, lines_of_branch, lines_of_steps, name_of}
 use Rattle.command_line.specs.Words.{Wanted, rows, create, run}
@@ -15,9 +15,9 @@ use Rattle.schedule_runner.specs.Rows.{current_rows}
 use Rattle.session_steps.specs.Open.{IsOpen}
 use Rattle.session_steps.specs.declared.fault.RunFault.{RunFault}
 use Rattle.session_steps.specs.declared.fault.RunFault.TheVariants as fault
-use Rattle.session_steps.specs.Steps.{LeavesOthers}
 use Rattle.schedule_runner.specs.Outcome.{IsOutcome, first_place}
-use Rattle.schedule_runner.specs.Scripts.{statements_in}
+use Rattle.schedule_runner.specs.Adding.{AddsAtMost}
+use Rattle.schedule_runner.specs.Scripts.{name_in, statements_in}
 use Rattle.dml_program.specs.declared.begin.Begun.{Begun}
 use Rattle.dml_program.specs.declared.status.TableKind.TheVariants.{Later, Limit}
 use Rattle.dml_program.specs.declared.status.Status.{Status}
@@ -83,20 +83,20 @@ IsWritten wanted result before now = (result ≡ wanted) ⊎ ((result ≡ status
 
 -- ---- the run
 
--- what is written of the steps, and with which status, between these states of the output and these counts of its faults
+-- what is written of the steps, and with which status, between these states of the output and these counts of its faults: all of it
+-- where the run went to its end
 abbrev pub IsTold : List ℕ → List (List ℕ) → Files → List Stepped → Option RunFault → Status → Option (List ℕ) → Option (List ℕ) → ℕ → ℕ → Type 0
 IsTold table names files steps ended result old new before now =
-    ((result ≡ status.Memory) × (new ≡ old)) ⊎ ((wanted : Status) × (lines : List ℕ) × IsReport table names files steps ended wanted lines × Writes lines old new before now × IsWritten wanted result before now)
+    ((result ≡ status.Memory) × (new ≡ old)) ⊎ ((wanted : Status) × (lines : List ℕ) × IsReport table names files steps ended wanted lines × Writes lines old new before now × (HasEnded result → new ≡ appended lines old) × IsWritten wanted result before now)
 
--- of a script on a table that was open; each name is as it was but those of files of its session, and of versions
-pub record IsRan (table : List ℕ) (begun : Begun) (start files : Files) (result : Status) (old new : Option (List ℕ)) (before now : ℕ) : Type 0 where
+-- of a script on a table that was open, between two counts of the store's faults, and two of the output's behind its two states
+pub record IsRan (table : List ℕ) (begun : Begun) (start files : Files) (failed fails : ℕ) (result : Status) (old new : Option (List ℕ)) (before now : ℕ) : Type 0 where
   pub was : IsOpen table begun.schema start begun.version
   pub steps : List Stepped
   pub ended : Option RunFault
-  pub outcome : IsOutcome table begun.schema [] (statements_in begun.script) start begun.version (first_place 0) was files steps ended
+  pub outcome : IsOutcome table begun.schema [] (statements_in begun.script) start begun.version (first_place 0) was files steps failed fails ended
   pub report : IsTold table (names_in begun.script) files steps ended result old new before now
-  pub names : Names
-  pub others : LeavesOthers table names (Some start) (Some files)
+  pub adds : AddsAtMost table (name_in begun.script) start files
 
 -- The script's read failed, and nothing was done.
 abbrev pub IsUnread : Status → ℕ → ℕ → Files → Option Files → Type 0

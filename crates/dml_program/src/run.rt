@@ -7,7 +7,7 @@ ghost use Rattle.command_line.specs.Words.{command_of, run, texts, wanted};
 ghost use Rattle.dml_program.specs.Answers.{Carries, IsFault, LeavesAnswered, OnlyReads, Prints, RunsNothing, Told, ToldOf, Writes, report_lines, rows_answer, so_far, status_of};
 ghost use Rattle.dml_program.specs.Causes.{HasInputCause, HasStoreCause, IsSettled, IsSettledBy};
 ghost use Rattle.dml_program.specs.Opening.{IsRefusal, table_rows};
-ghost use Rattle.dml_program.specs.ScriptRuns.{IsUnread, IsRan, OfRun};
+ghost use Rattle.dml_program.specs.ScriptRuns.{HasEnded, IsUnread, IsRan, OfRun};
 ghost use Rattle.dml_program.specs.Statuses.{fault_lines};
 
 use crate::begin::begin;
@@ -45,7 +45,7 @@ pub fn run_program<S: Store, I: Inputs, K: Sink, C: Clock>(
     ensures complete { ¬ Rose (S.faults store.old) (S.faults store.new) → ¬ Rose (I.faults inputs.old) (I.faults inputs.new) → ¬ Rose (K.faults out.old) (K.faults out.new)
         → Told (texts words.now) (S.files store.old) (I.contents inputs.old) (C.time clock.old)
         (λ files answer. (result ≡ Status.Memory) ⊎ (result ≡ status_of answer)) }
-    ensures quiet { result ≡ Status.Done → IsSettledBy (command_of (texts words.now)) (S.faults store.old) (S.faults store.new)
+    ensures quiet { HasEnded result → IsSettledBy (command_of (texts words.now)) (S.faults store.old) (S.faults store.new)
         (S.unsettled store.new) × (I.faults inputs.new ≡ I.faults inputs.old) × (K.faults out.new ≡ K.faults out.old) }
 
     // The files are those of the answer, and each that was there is as it was. The report is whole, or a front of it by a
@@ -61,8 +61,10 @@ pub fn run_program<S: Store, I: Inputs, K: Sink, C: Clock>(
         × Writes (steps ++ fault_lines result) (K.written out.old) (K.written out.new) (K.faults out.old) (K.faults out.new) }
 
     // A run that began leaves what plain SQL gives of the statements that it carried out, and tells of its steps.
-    ensures runs { OfRun (command_of (texts words.now)) (S.files store.old) (I.contents inputs.old) (λ table begun files. IsUnread result (I.faults inputs.old) (I.faults inputs.new) files (S.files store.new)
-        ⊎ ((new : Files) × (S.files store.new ≡ Some new) × IsRan table begun files new result (K.written out.old) (K.written out.new) (K.faults out.old) (K.faults out.new))) }
+    ensures runs { OfRun (command_of (texts words.now)) (S.files store.old) (I.contents inputs.old)
+        (λ table begun files. IsUnread result (I.faults inputs.old) (I.faults inputs.new) files (S.files store.new)
+        ⊎ ((new : Files) × (S.files store.new ≡ Some new) × IsRan table begun files new (S.faults store.old)
+        (S.faults store.new) result (K.written out.old) (K.written out.new) (K.faults out.old) (K.faults out.new))) }
 {
     match read_words(alloc, words) {
         Ok(Command::Run { table, script }) => run(alloc, store, inputs, out, clock, table, script),
@@ -91,7 +93,7 @@ fn run<S: Store, I: Inputs, K: Sink, C: Clock>(
     ensures complete { ¬ Rose (S.faults store.old) (S.faults store.new) → ¬ Rose (I.faults inputs.old) (I.faults inputs.new) → ¬ Rose (K.faults out.old) (K.faults out.new)
         → ToldOf (Some (run table.now script.now)) (S.files store.old) (I.contents inputs.old) (C.time clock.old)
         (λ files answer. (result ≡ Status.Memory) ⊎ (result ≡ status_of answer)) }
-    ensures quiet { result ≡ Status.Done → IsSettledBy (Some (run table.now script.now)) (S.faults store.old) (S.faults store.new)
+    ensures quiet { HasEnded result → IsSettledBy (Some (run table.now script.now)) (S.faults store.old) (S.faults store.new)
         (S.unsettled store.new) × (I.faults inputs.new ≡ I.faults inputs.old) × (K.faults out.new ≡ K.faults out.old) }
     ensures leaves { ToldOf (Some (run table.now script.now)) (S.files store.old) (I.contents inputs.old) (C.time clock.old)
         (λ files answer. LeavesAnswered answer result files (S.files store.new)) }
@@ -102,8 +104,10 @@ fn run<S: Store, I: Inputs, K: Sink, C: Clock>(
         (K.faults out.new)) }
     ensures fault_lines { IsFault result → (steps : Seq ℕ) × (RunsNothing (Some (run table.now script.now)) → steps ≡ [])
         × Writes (steps ++ fault_lines result) (K.written out.old) (K.written out.new) (K.faults out.old) (K.faults out.new) }
-    ensures runs { OfRun (Some (run table.now script.now)) (S.files store.old) (I.contents inputs.old) (λ table begun files. IsUnread result (I.faults inputs.old) (I.faults inputs.new) files (S.files store.new)
-        ⊎ ((new : Files) × (S.files store.new ≡ Some new) × IsRan table begun files new result (K.written out.old) (K.written out.new) (K.faults out.old) (K.faults out.new))) }
+    ensures runs { OfRun (Some (run table.now script.now)) (S.files store.old) (I.contents inputs.old)
+        (λ table begun files. IsUnread result (I.faults inputs.old) (I.faults inputs.new) files (S.files store.new)
+        ⊎ ((new : Files) × (S.files store.new ≡ Some new) × IsRan table begun files new (S.faults store.old)
+        (S.faults store.new) result (K.written out.old) (K.written out.new) (K.faults out.old) (K.faults out.new))) }
 {
     match begin(alloc, store, inputs, table, script) {
         Ok(begun) => run_begun(alloc, store, out, clock, table, &begun),
@@ -130,7 +134,7 @@ fn answer<S: Store, I: Inputs, K: Sink, C: Clock>(
     ensures complete { ¬ Rose (S.faults store.old) (S.faults store.new) → ¬ Rose (I.faults inputs.old) (I.faults inputs.new) → ¬ Rose (K.faults out.old) (K.faults out.new)
         → ToldOf (Some (wanted command.entry)) (S.files store.old) (I.contents inputs.old) (C.time clock.old)
         (λ files answer. (result ≡ Status.Memory) ⊎ (result ≡ status_of answer)) }
-    ensures quiet { result ≡ Status.Done → IsSettledBy (Some (wanted command.entry)) (S.faults store.old) (S.faults store.new)
+    ensures quiet { HasEnded result → IsSettledBy (Some (wanted command.entry)) (S.faults store.old) (S.faults store.new)
         (S.unsettled store.new) × (I.faults inputs.new ≡ I.faults inputs.old) × (K.faults out.new ≡ K.faults out.old) }
     ensures leaves { ToldOf (Some (wanted command.entry)) (S.files store.old) (I.contents inputs.old) (C.time clock.old)
         (λ files answer. LeavesAnswered answer result files (S.files store.new)) }
@@ -141,8 +145,10 @@ fn answer<S: Store, I: Inputs, K: Sink, C: Clock>(
         (K.faults out.new)) }
     ensures fault_lines { IsFault result → (steps : Seq ℕ) × (RunsNothing (Some (wanted command.entry)) → steps ≡ [])
         × Writes (steps ++ fault_lines result) (K.written out.old) (K.written out.new) (K.faults out.old) (K.faults out.new) }
-    ensures runs { OfRun (Some (wanted command.entry)) (S.files store.old) (I.contents inputs.old) (λ table begun files. IsUnread result (I.faults inputs.old) (I.faults inputs.new) files (S.files store.new)
-        ⊎ ((new : Files) × (S.files store.new ≡ Some new) × IsRan table begun files new result (K.written out.old) (K.written out.new) (K.faults out.old) (K.faults out.new))) }
+    ensures runs { OfRun (Some (wanted command.entry)) (S.files store.old) (I.contents inputs.old)
+        (λ table begun files. IsUnread result (I.faults inputs.old) (I.faults inputs.new) files (S.files store.new)
+        ⊎ ((new : Files) × (S.files store.new ≡ Some new) × IsRan table begun files new (S.faults store.old)
+        (S.faults store.new) result (K.written out.old) (K.written out.new) (K.faults out.old) (K.faults out.new))) }
 {
     match carry_out(alloc, command, store, inputs, clock) {
         Ok(lines) => write_lines(out, lines.as_slice()),

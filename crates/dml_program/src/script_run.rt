@@ -4,6 +4,7 @@ ghost use Rattle.std.specs.Option.{ForSome};
 ghost use Rattle.plain_types.specs.Causes.{Rose};
 ghost use Rattle.row_values.specs.declared.value.Value.{Value as Content};
 ghost use Rattle.store_core.specs.Files.{Files, KeepsFiles};
+ghost use Rattle.store_core.specs.Written.{appended};
 ghost use Rattle.run_report.specs.Report.{lines_of_branch, lines_of_steps};
 ghost use Rattle.schedule_runner.specs.Rows.{current_rows};
 ghost use Rattle.session_steps.specs.Open.{IsOpen};
@@ -47,13 +48,13 @@ pub(crate) fn run_begun<S: Store, K: Sink, C: Clock>(
     requires read { WasRead begun.now.schema begun.now.script }
     requires open { ForSome (S.files store.old) (λ files. IsOpen table.now begun.now.schema files begun.now.version) }
     ensures runs { ForSome (S.files store.old) (λ files. (new : Files) × (S.files store.new ≡ Some new)
-        × IsRan table.now begun.now files new result (K.written out.old) (K.written out.new) (K.faults out.old)
-        (K.faults out.new)) }
+        × IsRan table.now begun.now files new (S.faults store.old) (S.faults store.new) result (K.written out.old)
+        (K.written out.new) (K.faults out.old) (K.faults out.new)) }
     ensures kept { KeepsFiles (S.files store.old) (S.files store.new) }
     ensures kind { IsRunEnd result }
     ensures store { HasStoreCause result (S.faults store.old) (S.faults store.new) (S.unsettled store.new) }
     ensures output_failed { result ≡ Status.OutputFailed → Rose (K.faults out.old) (K.faults out.new) }
-    ensures quiet { result ≡ Status.Done → K.faults out.new ≡ K.faults out.old }
+    ensures quiet { HasEnded result → K.faults out.new ≡ K.faults out.old }
     ensures fault_lines { IsFault result → (steps : Seq ℕ) × Writes (steps ++ fault_lines result) (K.written out.old)
         (K.written out.new) (K.faults out.old) (K.faults out.new) }
 {
@@ -108,7 +109,7 @@ fn tell_end<S: Store, K: Sink>(
     ensures kind { IsRunEnd result }
     ensures known { (session : Seq ℕ) (number : ℕ) → result ≡ Status.StateUnknown session number → ⊥ }
     ensures output_failed { result ≡ Status.OutputFailed → Rose (K.faults out.old) (K.faults out.new) }
-    ensures quiet { result ≡ Status.Done → K.faults out.new ≡ K.faults out.old }
+    ensures quiet { HasEnded result → K.faults out.new ≡ K.faults out.old }
     ensures fault_lines { IsFault result → (front : Seq ℕ) × Writes (front ++ fault_lines result) (K.written out.old)
         (K.written out.new) (K.faults out.old) (K.faults out.new) }
 {
@@ -268,10 +269,11 @@ fn write_report<K: Sink>(out: &mut K, report: Report) -> Status
     requires kind { IsRunEnd report.status }
     ensures status { IsWritten report.status result (K.faults out.old) (K.faults out.new) }
     ensures lines { Writes report.lines.items (K.written out.old) (K.written out.new) (K.faults out.old) (K.faults out.new) }
+    ensures whole { HasEnded result → K.written out.new ≡ appended report.lines.items (K.written out.old) }
     ensures kind { IsRunEnd result }
     ensures faults { IsFault result → result ≡ report.status }
     ensures output_failed { result ≡ Status.OutputFailed → Rose (K.faults out.old) (K.faults out.new) ⊎ (report.status ≡ Status.OutputFailed) }
-    ensures quiet { result ≡ Status.Done → K.faults out.new ≡ K.faults out.old }
+    ensures quiet { HasEnded result → K.faults out.new ≡ K.faults out.old }
 {
     let Report { status, lines } = report;
     match write_all(out, lines.as_slice()) {
@@ -283,6 +285,7 @@ fn write_report<K: Sink>(out: &mut K, report: Report) -> Status
 // The status of a call whose report was not written.
 fn unwritten(status: Status) -> Status
     ensures carried_out { HasEnded status → result ≡ Status.OutputFailed }
+    ensures ended { HasEnded result → ⊥ }
     ensures fault { (HasEnded status → ⊥) → result ≡ status }
 {
     match status {

@@ -1,6 +1,8 @@
+mod AddedNames
 mod BlockCounts
 pub mod CallerLemmas
 mod CountLaws
+mod Counts
 mod DatumCounts
 mod Outcomes
 mod ReadScripts

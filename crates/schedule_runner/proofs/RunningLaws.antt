@@ -181,28 +181,32 @@ module _ (table : List ℕ) (schema : TableSchema) (sources : List Source) (stat
         }
 
     -- a step that is not made to its end
-    pub ends : (fault : RunFault) → EndsOf table schema sources (Some s) old new running.last fault
-        → Ended table schema sources statements start first place begun new session.place steps fault
-    ends fault either = record {
-      last = running.last;
-      run = run_stands table sources old new statements kept steps first running.last place session.place running.run;
-      left =
-          ⊎_elim
-          (λ same. inl (record {
-            still = same.still;
-            serial_rows = subst (IsSerial schema.columns sources begun.rows (told_in statements steps)) (rows_once table schema old running.last running.still same.was ∙ sym same.rows) running.serial_rows;
-          }))
-          (λ flight. inr (
-            flight.0,
-            record {
-              s = s;
-              at_hand = at_hand;
-              next = flight.1.next;
-              serial_rows =
-                  carries_on schema.columns sources s (all_at (λ (x : Statement). is_dml x ≡ true) statements session.place.at s changes at_hand) (all_at (λ (x : Statement). branch_of x ≡ codes "main") statements session.place.at s main at_hand) begun.rows (told_in statements steps) (Some (answer.Committed 0)) running.still.rows flight.1.next.rows running.serial_rows
-                  (subst (λ (rows : List (List Value)). IsCarriedOut sources schema.columns s rows flight.1.next.rows) (rows_once table schema old running.last flight.1.was running.still) flight.1.rows);
-            },
-          ))
-          either;
-      way = all_stand table schema sources statements start first place begun old new kept steps running.way;
-    }
+    pub ends : (before now : ℕ) (fault : RunFault) → EndsOf table schema sources (Some s) old new running.last session.place before now fault
+        → (ended : Ended table schema sources statements start first place begun new session.place steps before now fault) × (ended.last ≡ running.last)
+    ends before now fault either = (
+      record {
+        last = running.last;
+        run = run_stands table sources old new statements kept steps first running.last place session.place running.run;
+        left =
+            ⊎_elim
+            (λ same. inl (record {
+              still = same.still;
+              serial_rows = subst (IsSerial schema.columns sources begun.rows (told_in statements steps)) (rows_once table schema old running.last running.still same.was ∙ sym same.rows) running.serial_rows;
+            }))
+            (λ flight. inr (
+              flight.0,
+              record {
+                s = s;
+                at_hand = at_hand;
+                saw = flight.1.saw;
+                next = flight.1.next;
+                serial_rows =
+                    carries_on schema.columns sources s (all_at (λ (x : Statement). is_dml x ≡ true) statements session.place.at s changes at_hand) (all_at (λ (x : Statement). branch_of x ≡ codes "main") statements session.place.at s main at_hand) begun.rows (told_in statements steps) (Some (answer.Committed 0)) running.still.rows flight.1.next.rows running.serial_rows
+                    (subst (λ (rows : List (List Value)). IsCarriedOut sources schema.columns s rows flight.1.next.rows) (rows_once table schema old running.last flight.1.was running.still) flight.1.rows);
+              },
+            ))
+            either;
+        way = all_stand table schema sources statements start first place begun old new kept steps running.way;
+      },
+      refl,
+    )

@@ -25,21 +25,21 @@ keeps given made old new is also kept = subst (KeepsFiles (Some old)) also (subs
 module _ (table : List ℕ) (schema : TableSchema) (sources : List Source) (statements : List Statement) (changes : AllByRecursion (λ (s : Statement). is_dml s ≡ true) statements) (main : AllByRecursion (λ (s : Statement). branch_of s ≡ codes "main") statements)
     (start : Files) (first : ℕ) (place : Place) (begun : IsOpen table schema start first) (session : Session) (at_hand : is_some (slice_get statements session.place.at) ≡ true) (steps items : List Stepped) where
   -- no step was made
-  pub unmade : (old : Files) (fault : RunFault) → items ≡ steps
-      → Running table schema sources statements start first place begun old session steps
-      → Ended table schema sources statements start first place begun old session.place items fault
-  unmade old fault same running =
-      subst (λ (xs : List Stepped). Ended table schema sources statements start first place begun old session.place xs fault) (sym same)
-      (record { last = running.last; run = running.run; left = inl (record { still = running.still; serial_rows = running.serial_rows }); way = running.way })
+  pub unmade : (old : Files) (before now : ℕ) (fault : RunFault) → items ≡ steps
+      → (running : Running table schema sources statements start first place begun old session steps)
+      → (ended : Ended table schema sources statements start first place begun old session.place items before now fault) × (ended.last ≡ running.last)
+  unmade old before now fault same running =
+      subst (λ (xs : List Stepped). (ended : Ended table schema sources statements start first place begun old session.place xs before now fault) × (ended.last ≡ running.last)) (sym same)
+      (record { last = running.last; run = running.run; left = inl (record { still = running.still; serial_rows = running.serial_rows }); way = running.way }, refl)
 
   module _ (old new : Files) (kept : KeepsFiles (Some old) (Some new)) (running : Running table schema sources statements start first place begun old session steps) where
-    pub ended : (fault : RunFault) → items ≡ steps
-        → EndsOf table schema sources (slice_get statements session.place.at) old new running.last fault
-        → Ended table schema sources statements start first place begun new session.place items fault
-    ended fault same either =
+    pub ended : (before now : ℕ) (fault : RunFault) → items ≡ steps
+        → EndsOf table schema sources (slice_get statements session.place.at) old new running.last session.place before now fault
+        → (ended : Ended table schema sources statements start first place begun new session.place items before now fault) × (ended.last ≡ running.last)
+    ended before now fault same either =
         let hand = some_of (slice_get statements session.place.at) at_hand in
-        subst (λ (xs : List Stepped). Ended table schema sources statements start first place begun new session.place xs fault) (sym same)
-        (ends table schema sources statements changes main start first place begun old new kept session steps running hand.0 hand.1 fault (subst (λ (found : Option Statement). EndsOf table schema sources found old new running.last fault) hand.1 either))
+        subst (λ (xs : List Stepped). (ended : Ended table schema sources statements start first place begun new session.place xs before now fault) × (ended.last ≡ running.last)) (sym same)
+        (ends table schema sources statements changes main start first place begun old new kept session steps running hand.0 hand.1 before now fault (subst (λ (found : Option Statement). EndsOf table schema sources found old new running.last session.place before now fault) hand.1 either))
 
     pub made : (after : Session) (stepped : Stepped) → items ≡ steps ++ stepped ∷ []
         → IsStepOf table schema sources (slice_get statements session.place.at) old new running.last session.place after stepped

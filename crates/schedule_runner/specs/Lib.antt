@@ -1,3 +1,4 @@
+pub mod Adding
 pub mod Outcome
 pub mod Rows
 pub mod Running

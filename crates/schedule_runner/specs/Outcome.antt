@@ -24,17 +24,13 @@ IsAtHand to (run.Unknown session statement) = (session ≡ to.session) × (state
 IsAtHand to other = Unit {0}
 
 module _ (table : List ℕ) (schema : TableSchema) (sources : List Source) (statements : List Statement) (start : Files) (first : ℕ) (place : Place) (begun : IsOpen table schema start first) where
-  -- it was stopped by this fault, for a cause that was there, on the open table, before its last step
-  pub record Stopped (files : Files) (steps : List Stepped) (fault : RunFault) : Type 0 where
+  -- Between these counts of the store's faults it was stopped by this fault, for a cause that is there on the table that is left.
+  pub record Stopped (files : Files) (steps : List Stepped) (before now : ℕ) (fault : RunFault) : Type 0 where
     pub to : Place
-    pub ended : Ended table schema sources statements start first place begun files to steps fault
+    pub ended : Ended table schema sources statements start first place begun files to steps before now fault
     pub at_hand : IsAtHand to fault
-    pub before : Files
-    pub kept : KeepsFiles (Some before) (Some files)
-    pub current : ℕ
-    pub was : IsOpen table schema before current
-    pub cause : IsOfOutside table before current fault
+    pub cause : IsOfOutside table files ended.last fault
 
-  abbrev pub IsOutcome : Files → List Stepped → Option RunFault → Type 0
-  IsOutcome files steps None = Finished table schema sources statements start first place begun files steps
-  IsOutcome files steps (Some fault) = Stopped files steps fault
+  abbrev pub IsOutcome : Files → List Stepped → ℕ → ℕ → Option RunFault → Type 0
+  IsOutcome files steps before now None = Finished table schema sources statements start first place begun files steps
+  IsOutcome files steps before now (Some fault) = Stopped files steps before now fault

@@ -55,16 +55,17 @@ module _ (table : List ℕ) (schema : TableSchema) (sources : List Source) (stat
     pub still : IsOpen table schema files last
     pub serial_rows : IsSerial schema.columns sources begun.rows (told_in statements steps) still.rows
 
-  -- or of these and of the statement at hand, whose swap may have won
+  -- or of these and of the statement at hand, whose swap of the version behind the last one may have won
   pub record IsInFlight (files : Files) (steps : List Stepped) (last : ℕ) (to : Place) : Type 0 where
     pub s : Statement
     pub at_hand : slice_get statements to.at ≡ Some s
+    pub saw : to.seen ≡ last
     pub next : IsOpen table schema files (last + 1)
     pub serial_rows : IsSerial schema.columns sources begun.rows (told_in statements steps ++ record { statement = s; answered = committed } ∷ []) next.rows
 
-  -- a step was not made to its end
-  pub record Ended (files : Files) (to : Place) (steps : List Stepped) (fault : RunFault) : Type 0 where
+  -- a step was not made to its end, between these counts of the store's faults
+  pub record Ended (files : Files) (to : Place) (steps : List Stepped) (before now : ℕ) (fault : RunFault) : Type 0 where
     pub last : ℕ
     pub run : IsRun table sources files statements first place steps last to
-    pub left : IsLeft files steps last ⊎ (MayCommit fault × IsInFlight files steps last to)
+    pub left : IsLeft files steps last ⊎ (MayCommit to.phase fault before now × IsInFlight files steps last to)
     pub way : ArePassed files steps

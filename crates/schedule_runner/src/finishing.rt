@@ -51,7 +51,8 @@ pub fn run_session<S: Store, C: Clock>(
     requires open { ForSome (S.files store.old) (λ old. (current : ℕ) × IsOpen table.now schema.now old current) }
     ensures runs { ForSome (S.files store.old) (λ old. (current : ℕ) (begun : IsOpen table.now schema.now old current)
         → (new : Files) × (S.files store.new ≡ Some new)
-        × IsOutcome table.now schema.now sources.now statements.now old current (first_place number) begun new result.steps result.ended) }
+        × IsOutcome table.now schema.now sources.now statements.now old current (first_place number) begun new result.steps
+        (S.faults store.old) (S.faults store.new) result.ended) }
     ensures others { LeavesOthers table.now names (S.files store.old) (S.files store.new) }
     ensures told { is_some (S.files store.new) ≡ is_some (S.files store.old) }
     ensures kept { KeepsFiles (S.files store.old) (S.files store.new) }
@@ -101,7 +102,8 @@ fn finish<S: Store, C: Clock>(
     requires open { ForSome (S.files store.old) (λ old. (current : ℕ) × IsOpen table.now schema.now old current) }
     ensures runs { ForSome (S.files store.old) (λ old. (current : ℕ) (begun : IsOpen table.now schema.now old current)
         → (new : Files) × (S.files store.new ≡ Some new)
-        × IsOutcome table.now schema.now sources.now statements.now old current session.old.place begun new result.steps result.ended) }
+        × IsOutcome table.now schema.now sources.now statements.now old current session.old.place begun new result.steps
+        (S.faults store.old) (S.faults store.new) result.ended) }
     ensures others { LeavesOthers table.now session.old.names (S.files store.old) (S.files store.new) }
     ensures told { is_some (S.files store.new) ≡ is_some (S.files store.old) }
     ensures kept { KeepsFiles (S.files store.old) (S.files store.new) }

@@ -50,14 +50,16 @@ pub(crate) fn go_on<S: Store, C: Clock>(
         × Running table.now schema.now sources.now statements.now start first place begun new session.new steps.new.items)) }
     ensures ends { IfErr result (λ fault. ForSome (S.files store.old)
         (λ old. (start : Files) (first : ℕ) (place : Stand) (begun : IsOpen table.now schema.now start first)
-        → Running table.now schema.now sources.now statements.now start first place begun old session.old steps.old.items
+        → (running : Running table.now schema.now sources.now statements.now start first place begun old session.old steps.old.items)
         → (new : Files) × (S.files store.new ≡ Some new)
-        × Ended table.now schema.now sources.now statements.now start first place begun new session.old.place steps.new.items fault)) }
+        × (ended : Ended table.now schema.now sources.now statements.now start first place begun new session.old.place
+        steps.new.items (S.faults store.old) (S.faults store.new) fault) × (ended.last ≡ running.last))) }
     ensures faulted { IfErr result (λ fault. ForSome (S.files store.old)
         (λ old. (s : Stated) → slice_get statements.now session.old.place.at ≡ Some s
         → CannotStep table.now schema.now s old fault)) }
     ensures shape { OnOk result (HasShape session.new) }
     ensures session { (session.new.names.run ≡ session.old.names.run) × (session.new.names.session ≡ session.old.names.session) }
+    ensures raised { session.old.names.next ≤ session.new.names.next }
     ensures named { AreNames session.new.names }
     ensures free { ForSome (S.files store.new) (NoneFrom table.now session.new.names.run session.new.names.session session.new.names.next) }
     ensures others { LeavesOthers table.now session.old.names (S.files store.old) (S.files store.new) }

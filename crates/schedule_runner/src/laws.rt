@@ -23,7 +23,9 @@ ghost use Rattle.schedule_runner.specs.Runs.{IsRun, IsSerial, told_at, told_by};
 
 /// A run with the machine's next step behind it is a run.
 pub fn a_run_goes_on_by_a_step()
-    ensures { (table : Seq ℕ) (sources : Seq Source) (files : Files) (statements : Seq Statement) (current last : ℕ) (place to : Stand) (steps : Seq Step) (turned : Turned) → IsRun table sources files statements current place steps last to → turn table sources files last to statements ≡ Ok turned
+    ensures { (table : Seq ℕ) (sources : Seq Source) (files : Files) (statements : Seq Statement) (current last : ℕ)
+        (place to : Stand) (steps : Seq Step) (turned : Turned) → IsRun table sources files statements current place steps last to
+        → turn table sources files last to statements ≡ Ok turned
         → IsRun table sources files statements current place (steps ++ turned.stepped ∷ []) turned.current turned.place }
 {}
 
@@ -38,7 +40,9 @@ pub fn a_run_stands_when_files_are_added()
 /// Where the rows so far are those of a serial run, and a step leaves the rows as its answer says, the rows after it are those of
 /// the serial run with the statement, where it is carried out.
 pub fn a_step_carries_a_serial_run_on()
-    ensures { (columns : Seq Column) (sources : Seq Source) (s : Statement) (answer : Maybe Said) (begun before after : Seq (Seq Value)) (told : Seq Told) → is_dml s ≡ true → branch_of s ≡ codes "main" → IsSerial columns sources begun told before → LeavesRows sources columns s answer before after
+    ensures { (columns : Seq Column) (sources : Seq Source) (s : Statement) (answer : Maybe Said)
+        (begun before after : Seq (Seq Value)) (told : Seq Told) → is_dml s ≡ true → branch_of s ≡ codes "main"
+        → IsSerial columns sources begun told before → LeavesRows sources columns s answer before after
         → IsSerial columns sources begun (told ++ told_by s answer) after }
 {}
 
@@ -55,9 +59,11 @@ pub fn a_step_is_of_the_statement_at_hand()
 
 /// A session is running before its first step, and is finished once it runs and all its statements are answered.
 pub fn a_session_runs_from_its_begin_to_its_end()
-    ensures begins { (table : Seq ℕ) (schema : TableSchema) (sources : Seq Source) (statements : Seq Statement) (start : Files) (first : ℕ) (begun : IsOpen table schema start first) (session : Session)
+    ensures begins { (table : Seq ℕ) (schema : TableSchema) (sources : Seq Source) (statements : Seq Statement) (start : Files)
+        (first : ℕ) (begun : IsOpen table schema start first) (session : Session)
         → IsHeld table schema sources statements start session → Running table schema sources statements start first session.place begun start session [] }
-    ensures finishes { (table : Seq ℕ) (schema : TableSchema) (sources : Seq Source) (statements : Seq Statement) (start files : Files) (first : ℕ) (place : Stand) (begun : IsOpen table schema start first) (session : Session) (steps : Seq Step)
+    ensures finishes { (table : Seq ℕ) (schema : TableSchema) (sources : Seq Source) (statements : Seq Statement)
+        (start files : Files) (first : ℕ) (place : Stand) (begun : IsOpen table schema start first) (session : Session) (steps : Seq Step)
         → Running table schema sources statements start first place begun files session steps
         → slice_get statements session.place.at ≡ None
         → Finished table schema sources statements start first place begun files steps }
@@ -66,7 +72,9 @@ pub fn a_session_runs_from_its_begin_to_its_end()
 /// A step that is made keeps a session running: on the files after it the steps with it are the machine's, the table is open, and
 /// its rows are those of the serial run of what was carried out.
 pub fn a_step_that_is_made_goes_on()
-    ensures { (table : Seq ℕ) (schema : TableSchema) (sources : Seq Source) (statements : Seq Statement) (start old new : Files) (first : ℕ) (place : Stand) (begun : IsOpen table schema start first) (session after : Session) (steps : Seq Step) (s : Statement) (stepped : Step)
+    ensures { (table : Seq ℕ) (schema : TableSchema) (sources : Seq Source) (statements : Seq Statement) (start old new : Files)
+        (first : ℕ) (place : Stand) (begun : IsOpen table schema start first) (session after : Session) (steps : Seq Step)
+        (s : Statement) (stepped : Step)
         → AllByRecursion (λ x. is_dml x ≡ true) statements → AllByRecursion (λ x. branch_of x ≡ codes "main") statements
         → KeepsFiles (Some old) (Some new)
         → (running : Running table schema sources statements start first place begun old session steps)
@@ -78,11 +86,14 @@ pub fn a_step_that_is_made_goes_on()
 /// A step that is not made to its end leaves the rows of what was carried out, or, where a swap may have won, of that and of the
 /// statement at hand.
 pub fn a_step_that_fails_ends_a_run()
-    ensures { (table : Seq ℕ) (schema : TableSchema) (sources : Seq Source) (statements : Seq Statement) (start old new : Files) (first : ℕ) (place : Stand) (begun : IsOpen table schema start first) (session : Session) (steps : Seq Step) (s : Statement) (fault : RunFault)
+    ensures { (table : Seq ℕ) (schema : TableSchema) (sources : Seq Source) (statements : Seq Statement) (start old new : Files)
+        (first : ℕ) (place : Stand) (begun : IsOpen table schema start first) (session : Session) (steps : Seq Step) (s : Statement)
+        (before now : ℕ) (fault : RunFault)
         → AllByRecursion (λ x. is_dml x ≡ true) statements → AllByRecursion (λ x. branch_of x ≡ codes "main") statements
         → KeepsFiles (Some old) (Some new)
         → (running : Running table schema sources statements start first place begun old session steps)
         → slice_get statements session.place.at ≡ Some s
-        → EndsOf table schema sources (Some s) old new running.last fault
-        → Ended table schema sources statements start first place begun new session.place steps fault }
+        → EndsOf table schema sources (Some s) old new running.last session.place before now fault
+        → (ended : Ended table schema sources statements start first place begun new session.place steps before now fault)
+        × (ended.last ≡ running.last) }
 {}

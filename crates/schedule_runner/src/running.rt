@@ -7,11 +7,12 @@ ghost use Rattle.plain_types.specs.Causes.{Rose, RoseTwice};
 ghost use Rattle.sql_statements.specs.Tables.{is_dml};
 ghost use Rattle.store_core.specs.Files.{Files, KeepsFiles};
 ghost use Rattle.table_names.specs.FileNames.{NoneFrom};
-ghost use Rattle.table_names.specs.declared.names.Names.{Names as Drawn};
+ghost use Rattle.table_names.specs.Runs.{IsFreshRun};
 ghost use Rattle.table_names.specs.Sessions.{HasNoSlash};
 ghost use Rattle.commit_builder.specs.NextVersion.{AreNames};
 ghost use Rattle.session_steps.specs.Open.{IsOpen};
-ghost use Rattle.session_steps.specs.Steps.{AreWorkable, LeavesOthers};
+ghost use Rattle.session_steps.specs.Steps.{AreWorkable};
+ghost use Rattle.schedule_runner.specs.Adding.{AddsAtMost};
 ghost use Rattle.schedule_runner.specs.Outcome.{IsOutcome, first_place};
 ghost use Rattle.schedule_runner.specs.Scripts.{WasRead, name_in, statements_in};
 
@@ -39,8 +40,10 @@ pub fn run_script<S: Store, C: Clock>(
     requires open { ForSome (S.files store.old) (λ old. (current : ℕ) × IsOpen table.now schema.now old current) }
     ensures runs { ForSome (S.files store.old) (λ old. (current : ℕ) (begun : IsOpen table.now schema.now old current)
         → (new : Files) × (S.files store.new ≡ Some new)
-        × IsOutcome table.now schema.now [] (statements_in script.now) old current (first_place 0) begun new result.steps result.ended) }
-    ensures others { (names : Drawn) × LeavesOthers table.now names (S.files store.old) (S.files store.new) }
+        × IsOutcome table.now schema.now [] (statements_in script.now) old current (first_place 0) begun new result.steps
+        (S.faults store.old) (S.faults store.new) result.ended) }
+    ensures adds { ForSome (S.files store.old) (λ old. (new : Files) × (S.files store.new ≡ Some new)
+        × AddsAtMost table.now (name_in script.now) old new) }
     ensures kept { KeepsFiles (S.files store.old) (S.files store.new) }
     ensures told { is_some (S.files store.new) ≡ is_some (S.files store.old) }
     // What a fault needs of the counts.
@@ -111,6 +114,7 @@ fn first_names<S: Store>(
     requires slash { HasNoSlash session.now }
     ensures named { IfOk result AreNames }
     ensures first { IfOk result (λ names. (names.session ≡ session.now) × (names.next ≡ 1)) }
+    ensures fresh { IfOk result (λ names. ForSome (S.files store.old) (λ old. IsFreshRun table.now old names.run)) }
     ensures free { IfOk result (λ names. ForSome (S.files store.old) (NoneFrom table.now names.run names.session names.next)) }
     ensures kind { IfErr result (λ fault. (fault ≡ RunFault.Store) ⊎ (fault ≡ RunFault.Memory)) }
     ensures files { S.files store.new ≡ S.files store.old }

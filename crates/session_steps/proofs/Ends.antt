@@ -3,6 +3,7 @@ use Rattle.std.proofs.Common.{◌≡◌, ℕ, zero, suc, List, [], ◌∷◌, Op
 use Rattle.std.specs.FinMap as map
 use Rattle.std.specs.List.{AllByRecursion}
 use Rattle.std.specs.Option.{ForSome}
+use Rattle.plain_types.specs.Causes.{Rose, RoseTwice}
 use Rattle.row_values.specs.declared.schema.TableSchema.{TableSchema}
 use Rattle.sql_statements.specs.declared.statement.Source.{Source}
 use Rattle.sql_statements.specs.declared.statement.Statement.{Statement}
@@ -16,12 +17,16 @@ use Rattle.table_names.specs.Versions.{version_of_name, version_prefix}
 use Rattle.session_machine.specs.declared.place.Phase.{Phase}
 use Rattle.session_machine.specs.declared.place.Phase.TheVariants as phase
 use Rattle.session_machine.specs.declared.place.Place.{Place}
+use Rattle.branch_commit.specs.Settled.{Leaves}
+use Rattle.branch_commit.specs.declared.swapping.SwapFault.{SwapFault}
+use Rattle.branch_commit.specs.declared.swapping.SwapFault.TheVariants as swap
+use Rattle.session_steps.specs.Faults.{swap_fault}
 use Rattle.session_steps.specs.Open.{IsOpen}
 use Rattle.session_steps.proofs.Swaps.{committed, is_missing, same_beside, still_free}
 use Rattle.session_steps.specs.declared.fault.RunFault.{RunFault}
 use Rattle.session_steps.specs.declared.fault.RunFault.TheVariants as run
 use Rattle.session_steps.specs.declared.session.Session.{Session}
-use Rattle.session_steps.specs.Steps.{EndsOf, HasPrepared, HasShape, InPhase, IsHeldOf, IsStep, IsStepOf, InShape, LeavesOthers, LeftBy}
+use Rattle.session_steps.specs.Steps.{EndsOf, HasPrepared, HasShape, InPhase, IsHeldOf, IsStep, IsStepOf, InShape, LeavesOthers, LeftBy, MayCommit}
 
 -- ---- what is said of answers and faults
 
@@ -78,12 +83,12 @@ pub version_missing : (table : List ℕ) (schema : TableSchema) (sources : List 
 version_missing table schema sources s files current session was has prepared made =
     subst (λ (p : Prepared). map.get files p.name ≡ None) (same_version has.prepared prepared session.prepared has.made made) (is_missing table schema sources s files current session was has)
 
-module _ (table : List ℕ) (schema : TableSchema) (sources : List Source) (s : Statement) (files : Files) (current : ℕ) (session : Session) (was : IsOpen table schema files current) (has : HasPrepared table schema sources s files session) (main : branch_of s ≡ codes "main") (old new : Option Files) (told : old ≡ Some files) where
+module _ (table : List ℕ) (schema : TableSchema) (sources : List Source) (s : Statement) (files : Files) (current : ℕ) (session : Session) (was : IsOpen table schema files current) (has : HasPrepared table schema sources s files session) (main : branch_of s ≡ codes "main") (old new : Option Files) (told : old ≡ Some files) (before after : ℕ) (swaps : session.place.phase ≡ phase.Swap) where
   abbrev later : Files
   later = swapped has.prepared.name has.prepared.bytes files
 
   abbrev Ended : RunFault → Type 0
-  Ended f = (now : Files) × (new ≡ Some now) × EndsOf table schema sources (Some s) files now current f
+  Ended f = (now : Files) × (new ≡ Some now) × EndsOf table schema sources (Some s) files now current session.place before after f
 
   same_ends : (f : RunFault) → new ≡ old → Ended f
   same_ends f same = (files, same ∙ told, inl (record { was = was; still = was; rows = refl }))
@@ -91,20 +96,41 @@ module _ (table : List ℕ) (schema : TableSchema) (sources : List Source) (s : 
   told_after : new ≡ option_map (swapped has.prepared.name has.prepared.bytes) old → new ≡ Some later
   told_after e = e ∙ ap (option_map (swapped has.prepared.name has.prepared.bytes)) told
 
-  swap_ends : (f : RunFault) → LeftBy has.prepared.name has.prepared.bytes old new f → Ended f
+  in_flight : (f : RunFault) → new ≡ option_map (swapped has.prepared.name has.prepared.bytes) old → MayCommit phase.Swap f before after → Ended f
+  in_flight f e may = (
+    later,
+    told_after e,
+    inr (subst (λ (p : Phase). MayCommit p f before after) (sym swaps) may, committed table schema sources s files current session was has main),
+  )
+
+  swap_ends : (f : RunFault) → LeftBy has.prepared.name has.prepared.bytes old new before after f → Ended f
   swap_ends run.Store left = same_ends run.Store left
   swap_ends (run.Unknown session_number number) (inl same) = same_ends (run.Unknown session_number number) same
-  swap_ends (run.Unknown session_number number) (inr e) = (later, told_after e, inr (tt, committed table schema sources s files current session was has main))
+  swap_ends (run.Unknown session_number number) (inr e) = in_flight (run.Unknown session_number number) e.0 e.1
   swap_ends run.Memory (inl same) = same_ends run.Memory same
-  swap_ends run.Memory (inr e) = (later, told_after e, inr (tt, committed table schema sources s files current session was has main))
+  swap_ends run.Memory (inr e) = in_flight run.Memory e.0 e.1
   swap_ends (run.Table f) left = absurd left
   swap_ends (run.Schema q) left = absurd left
   swap_ends (run.Limit q) left = absurd left
 
   pub swap_ends_of : (found : Option Statement) → found ≡ Some s → (f : RunFault)
-      → LeftBy has.prepared.name has.prepared.bytes old new f → (now : Files) × (new ≡ Some now)
-      × EndsOf table schema sources found files now current f
-  swap_ends_of found is f left = subst (λ (o : Option Statement). (now : Files) × (new ≡ Some now) × EndsOf table schema sources o files now current f) (sym is) (swap_ends f left)
+      → LeftBy has.prepared.name has.prepared.bytes old new before after f → (now : Files) × (new ≡ Some now)
+      × EndsOf table schema sources found files now current session.place before after f
+  swap_ends_of found is f left = subst (λ (o : Option Statement). (now : Files) × (new ≡ Some now) × EndsOf table schema sources o files now current session.place before after f) (sym is) (swap_ends f left)
+
+-- ---- a swap that failed
+
+failed_then : {Same Swapped Count : Type 0} → Same ⊎ Swapped → Same ⊎ Count → Same ⊎ (Swapped × Count)
+failed_then (inl same) either = inl same
+failed_then (inr swapped) (inl same) = inl same
+failed_then (inr swapped) (inr count) = inr (swapped, count)
+
+pub left_by : (place : Place) (name bytes : List ℕ) (old new : Option Files) (before now : ℕ) (f : SwapFault)
+    → Leaves name bytes old new (Err f) → (f ≡ swap.Unknown → RoseTwice before now) → (f ≡ swap.Memory → (new ≡ old) ⊎ Rose before now)
+    → LeftBy name bytes old new before now (swap_fault place f)
+left_by place name bytes old new before now swap.Store left unknown memory = left
+left_by place name bytes old new before now swap.Unknown left unknown memory = failed_then left (inr (unknown refl))
+left_by place name bytes old new before now swap.Memory left unknown memory = failed_then left (memory refl)
 
 -- ---- the files after a swap
 

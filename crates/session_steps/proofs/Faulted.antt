@@ -57,13 +57,13 @@ module _ (table : List ℕ) (schema : TableSchema) (s : Statement) (files : File
       let planned = subst (λ (p : Plan). CannotValidate table p.branch files f) has.work.ready.fixed ours in
       subst (λ (r : RunFault). CannotStep table schema s files r) (sym is) (of_commit f planned)
 
-  pub by_swap : (name bytes : List ℕ) (old new : Option Files) (fault : RunFault) → LeftBy name bytes old new fault → CannotStep table schema s files fault
-  by_swap name bytes old new run.Store left = tt
-  by_swap name bytes old new (run.Unknown number statement) left = tt
-  by_swap name bytes old new run.Memory left = tt
-  by_swap name bytes old new (run.Table why) left = absurd left
-  by_swap name bytes old new (run.Schema which) left = absurd left
-  by_swap name bytes old new (run.Limit which) left = absurd left
+  pub by_swap : (name bytes : List ℕ) (old new : Option Files) (before now : ℕ) (fault : RunFault) → LeftBy name bytes old new before now fault → CannotStep table schema s files fault
+  by_swap name bytes old new before now run.Store left = tt
+  by_swap name bytes old new before now (run.Unknown number statement) left = tt
+  by_swap name bytes old new before now run.Memory left = tt
+  by_swap name bytes old new before now (run.Table why) left = absurd left
+  by_swap name bytes old new before now (run.Schema which) left = absurd left
+  by_swap name bytes old new before now (run.Limit which) left = absurd left
 
 module _ (table : List ℕ) (schema : TableSchema) (files : Files) (found : Option Statement) where
   same_statement : (a b : Statement) → found ≡ Some a → found ≡ Some b → a ≡ b

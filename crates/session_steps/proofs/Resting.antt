@@ -15,6 +15,7 @@ use Rattle.table_state.specs.declared.load_fault.LoadFault.TheVariants as fault
 use Rattle.table_state.specs.Files.{version_at}
 use Rattle.session_steps.proofs.NoVersions.{of_data, of_metadata}
 use Rattle.session_steps.proofs.StaysOpen.{stays_open}
+use Rattle.session_machine.specs.declared.place.Place.{Place}
 use Rattle.session_steps.specs.Open.{IsOpen}
 use Rattle.session_steps.specs.declared.fault.RunFault.{RunFault}
 use Rattle.session_steps.specs.Steps.{EndsOf, IsAsBefore, LeavesOthers, LeavesRest}
@@ -27,11 +28,11 @@ LeavesBut put from old new = (q : List ℕ) → ((n : ℕ) → from ≤ n → q 
 
 pub by_data : (table : List ℕ) (names : Names) (old new : Option Files)
     → LeavesBut (data_name table names.run names.session) names.next old new → LeavesRest table names old new
-by_data table names old new others q no_data no_metadata = others q (λ n above. no_data n)
+by_data table names old new others q no_data no_metadata = others q no_data
 
 pub by_metadata : (table : List ℕ) (names : Names) (old new : Option Files)
     → LeavesBut (metadata_name table names.run names.session) names.next old new → LeavesRest table names old new
-by_metadata table names old new others q no_data no_metadata = others q (λ n above. no_metadata n)
+by_metadata table names old new others q no_data no_metadata = others q no_metadata
 
 -- the same of a step that may add a version
 pub rest_of : (table : List ℕ) (names : Names) (old new : Option Files) → LeavesRest table names old new → LeavesOthers table names old new
@@ -66,15 +67,15 @@ module _ (table : List ℕ) (schema : TableSchema) (files : Files) (current : �
   as_before : (later : Files) → KeepsFiles (Some files) (Some later) → LeavesRest table names (Some files) (Some later)
       → IsAsBefore table schema files later current
   as_before later kept rest =
-      let still = stays_open table schema files later current was kept (λ q is_version. rest q (λ n. not_of q (data_name table names.run names.session n) is_version (of_data table names.session names.run n)) (λ n. not_of q (metadata_name table names.run names.session n) is_version (of_metadata table names.session names.run n))) in
+      let still = stays_open table schema files later current was kept (λ q is_version. rest q (λ n above. not_of q (data_name table names.run names.session n) is_version (of_data table names.session names.run n)) (λ n above. not_of q (metadata_name table names.run names.session n) is_version (of_metadata table names.session names.run n))) in
       record { was = was; still = still.0; rows = still.1 }
 
-  pub ends_as_before : (sources : List Source) (s : Statement) (f : RunFault) (found : Option Statement) (old new : Option Files)
+  pub ends_as_before : (sources : List Source) (s : Statement) (place : Place) (before now : ℕ) (f : RunFault) (found : Option Statement) (old new : Option Files)
       → found ≡ Some s → old ≡ Some files → KeepsFiles old new → LeavesRest table names old new
-      → (later : Files) × (new ≡ Some later) × EndsOf table schema sources found files later current f
-  ends_as_before sources s f found old new found_is told kept rest =
+      → (later : Files) × (new ≡ Some later) × EndsOf table schema sources found files later current place before now f
+  ends_as_before sources s place before now f found old new found_is told kept rest =
       let here = current_file table schema files current was in
       let there = is_told (version_name table current) here.0 new (kept (version_name table current) here.0 (ap (λ (o : Option Files). bytes_of o (version_name table current)) told ∙ here.1)) in
       let kept_so = subst (λ (o : Option Files). KeepsFiles (Some files) o) there.1 (subst (λ (o : Option Files). KeepsFiles o new) told kept) in
       let rest_so = subst (λ (o : Option Files). LeavesRest table names (Some files) o) there.1 (subst (λ (o : Option Files). LeavesRest table names o new) told rest) in
-      (there.0, there.1, subst (λ (o : Option Statement). EndsOf table schema sources o files there.0 current f) (sym found_is) (inl (as_before there.0 kept_so rest_so)))
+      (there.0, there.1, subst (λ (o : Option Statement). EndsOf table schema sources o files there.0 current place before now f) (sym found_is) (inl (as_before there.0 kept_so rest_so)))

@@ -93,16 +93,16 @@ module _ (table : List ℕ) (schema : TableSchema) (sources : List Source) (s : 
     carried : IsCarriedOut sources schema.columns s was.rows next_open.0.rows
     carried = (rows_after (length schema.columns) sources s was.rows, next_open.1, next_open.2)
 
-    pub committed : IsCommitted table schema sources s files later current
-    committed = record { was = was; next = next_open.0; rows = carried }
-
-    -- ---- the machine
-
     is_current : has.pending.base.version ≡ current
     is_current = base_version table schema sources s files current has.pending version was has.work
 
     seen_is : session.place.seen ≡ current
     seen_is = has.seen ∙ is_current
+
+    pub committed : IsCommitted table schema sources s files later current session.place.seen
+    committed = record { was = was; saw = seen_is; next = next_open.0; rows = carried }
+
+    -- ---- the machine
 
     read : version_at table session.place.planned files ≡ Ok (parts has.pending.base.metadata)
     read =

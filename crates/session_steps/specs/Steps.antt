@@ -1,9 +1,10 @@
 -- What a step of a session leaves (Iceberg specification, "Optimistic Concurrency"), on a table that nobody else changes: the
 -- step is the machine's over the files that were there, the table stays open, and the rows of `main` are, as a bag, those that the
 -- statement leaves where the step answers that it is committed or changes nothing, and else as they were.
-use Rattle.std.specs.Prelude.{◌≡◌, ◌≢◌, ◌⊎◌, option_map, codes, length, slice_get, ◌+◌, ◌<◌, ◌^◌, ℕ, IsSome, List, Option, Some, None, Ok}
+use Rattle.std.specs.Prelude.{◌≡◌, ◌≢◌, ◌⊎◌, option_map, codes, length, slice_get, ◌+◌, ◌<◌, ◌≤◌, ◌^◌, ℕ, IsSome, List, Option, Some, None, Ok}
 use Rattle.std.specs.List.{AllByRecursion}
 use Rattle.plain_types.specs.Bags.{SameBag}
+use Rattle.plain_types.specs.Causes.{Rose, RoseTwice}
 use Rattle.row_values.specs.declared.schema.Column.{Column}
 use Rattle.row_values.specs.declared.schema.TableSchema.{TableSchema}
 use Rattle.row_values.specs.declared.value.Value.{Value}
@@ -85,13 +86,16 @@ pub record IsStep (table : List ℕ) (schema : TableSchema) (sources : List Sour
   pub rows : LeavesRows sources schema.columns s stepped.answer was.rows still.rows
   pub held : InPhase table schema sources s new session session.place.phase
 
--- Each name is as it was but those of the files of this session.
+-- Each name is as it was but those of the files of this session, with a number from the next one on.
 abbrev pub LeavesRest : List ℕ → Names → Option Files → Option Files → Type 0
-LeavesRest table names old new = (name : List ℕ) → ((n : ℕ) → name ≢ data_name table names.run names.session n) → ((n : ℕ) → name ≢ metadata_name table names.run names.session n) → bytes_of new name ≡ bytes_of old name
+LeavesRest table names old new = (name : List ℕ) → ((n : ℕ) → names.next ≤ n → name ≢ data_name table names.run names.session n)
+    → ((n : ℕ) → names.next ≤ n → name ≢ metadata_name table names.run names.session n) → bytes_of new name ≡ bytes_of old name
 
 -- Each name is as it was but those, and those of versions.
 abbrev pub LeavesOthers : List ℕ → Names → Option Files → Option Files → Type 0
-LeavesOthers table names old new = (name : List ℕ) → ((n : ℕ) → name ≢ data_name table names.run names.session n) → ((n : ℕ) → name ≢ metadata_name table names.run names.session n) → version_of_name (version_prefix table) name ≡ 0 → bytes_of new name ≡ bytes_of old name
+LeavesOthers table names old new = (name : List ℕ) → ((n : ℕ) → names.next ≤ n → name ≢ data_name table names.run names.session n)
+    → ((n : ℕ) → names.next ≤ n → name ≢ metadata_name table names.run names.session n)
+    → version_of_name (version_prefix table) name ≡ 0 → bytes_of new name ≡ bytes_of old name
 
 -- ---- the statement at hand, where there is one
 
@@ -115,25 +119,26 @@ IsStepOf table schema sources (Some s) old new current place session stepped = I
 
 -- ---- a swap that failed
 
--- The files after a swap of these bytes that failed: as they were where the store failed, and with the version or without it
--- where that is not known.
-abbrev pub LeftBy : List ℕ → List ℕ → Option Files → Option Files → RunFault → Type 0
-LeftBy name bytes old new run.Store = new ≡ old
-LeftBy name bytes old new (run.Unknown session statement) = (new ≡ old) ⊎ (new ≡ option_map (swapped name bytes) old)
-LeftBy name bytes old new run.Memory = (new ≡ old) ⊎ (new ≡ option_map (swapped name bytes) old)
-LeftBy name bytes old new other = ⊥
+-- The files after a swap of these bytes that failed, between these counts of the store's faults: as they were, or with the version
+-- where it is not known and the store failed twice, or where memory ran out and the store failed before.
+abbrev pub LeftBy : List ℕ → List ℕ → Option Files → Option Files → ℕ → ℕ → RunFault → Type 0
+LeftBy name bytes old new before now run.Store = new ≡ old
+LeftBy name bytes old new before now (run.Unknown session statement) = (new ≡ old) ⊎ ((new ≡ option_map (swapped name bytes) old) × RoseTwice before now)
+LeftBy name bytes old new before now run.Memory = (new ≡ old) ⊎ ((new ≡ option_map (swapped name bytes) old) × Rose before now)
+LeftBy name bytes old new before now other = ⊥
 
 -- ---- a step that is not made to its end
 
--- A swap whose outcome is not known may have committed its statement.
-abbrev pub MayCommit : RunFault → Type 0
-MayCommit (run.Unknown session statement) = Unit {0}
-MayCommit run.Memory = Unit {0}
-MayCommit other = ⊥
+-- A step of this phase, between these counts, may have committed its statement: only a swap does, whose outcome is not known.
+abbrev pub MayCommit : Phase → RunFault → ℕ → ℕ → Type 0
+MayCommit phase.Swap (run.Unknown session statement) before now = RoseTwice before now
+MayCommit phase.Swap run.Memory before now = Rose before now
+MayCommit other fault before now = ⊥
 
--- The table is open as it was, or at the next version with the rows that the statement at hand leaves.
-pub record IsCommitted (table : List ℕ) (schema : TableSchema) (sources : List Source) (s : Statement) (old new : Files) (current : ℕ) : Type 0 where
+-- The table is open as it was, or at the version behind the one that was seen, with the rows that the statement at hand leaves.
+pub record IsCommitted (table : List ℕ) (schema : TableSchema) (sources : List Source) (s : Statement) (old new : Files) (current seen : ℕ) : Type 0 where
   pub was : IsOpen table schema old current
+  pub saw : seen ≡ current
   pub next : IsOpen table schema new (current + 1)
   pub rows : IsCarriedOut sources schema.columns s was.rows next.rows
 
@@ -142,6 +147,6 @@ pub record IsAsBefore (table : List ℕ) (schema : TableSchema) (old new : Files
   pub still : IsOpen table schema new current
   pub rows : still.rows ≡ was.rows
 
-abbrev pub EndsOf : List ℕ → TableSchema → List Source → Option Statement → Files → Files → ℕ → RunFault → Type 0
-EndsOf table schema sources None old new current fault = ⊥
-EndsOf table schema sources (Some s) old new current fault = IsAsBefore table schema old new current ⊎ (MayCommit fault × IsCommitted table schema sources s old new current)
+abbrev pub EndsOf : List ℕ → TableSchema → List Source → Option Statement → Files → Files → ℕ → Place → ℕ → ℕ → RunFault → Type 0
+EndsOf table schema sources None old new current place before now fault = ⊥
+EndsOf table schema sources (Some s) old new current place before now fault = IsAsBefore table schema old new current ⊎ (MayCommit place.phase fault before now × IsCommitted table schema sources s old new current place.seen)

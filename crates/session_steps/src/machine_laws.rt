@@ -27,9 +27,12 @@ ghost use Rattle.session_steps.specs.Work.{IsPending};
 pub fn a_plan_finds_what_the_machine_says()
     ensures version { (table : Seq ℕ) (schema : TableSchema) (s : Statement) (files : Files) (current : ℕ) (base : Loaded)
         → IsOpen table schema files current → IsCurrent table (branch_of s) files base → base.version ≡ current }
-    ensures absent { (table : Seq ℕ) (schema : TableSchema) (sources : Seq Source) (s : Statement) (files : Files) (current : ℕ) (base : Loaded) → IsOpen table schema files current → IsCurrent table (branch_of s) files base → is_absent base.head ≡ true
+    ensures absent { (table : Seq ℕ) (schema : TableSchema) (sources : Seq Source) (s : Statement) (files : Files) (current : ℕ)
+        (base : Loaded) → IsOpen table schema files current → IsCurrent table (branch_of s) files base → is_absent base.head ≡ true
         → plan_answer table sources s files current ≡ Ok (Some (answer.NoBranch (branch_of s))) }
-    ensures found { (table : Seq ℕ) (schema : TableSchema) (sources : Seq Source) (s : Statement) (files : Files) (current : ℕ) (base : Loaded) (scanned : Seq ScannedFile) → IsOpen table schema files current → branch_of s ≡ codes "main" → IsCurrent table (branch_of s) files base → is_absent base.head ≡ false
+    ensures found { (table : Seq ℕ) (schema : TableSchema) (sources : Seq Source) (s : Statement) (files : Files) (current : ℕ)
+        (base : Loaded) (scanned : Seq ScannedFile) → IsOpen table schema files current → branch_of s ≡ codes "main"
+        → IsCurrent table (branch_of s) files base → is_absent base.head ≡ false
         → IsScanned base s scanned files → plan_answer table sources s files current ≡ Ok (option_map (refused_as schema.columns)
         (refusal schema.columns sources s (hit_rows scanned))) }
 {}
@@ -37,9 +40,12 @@ pub fn a_plan_finds_what_the_machine_says()
 /// On an open table the machine's verdict on a statement that was planned there is that of its plan on the branch as it is
 /// loaded, and the machine says that it keeps all rows exactly where its change is none.
 pub fn a_validation_finds_what_the_machine_says()
-    ensures verdict { (table : Seq ℕ) (schema : TableSchema) (sources : Seq Source) (s : Statement) (files : Files) (current : ℕ) (pending : Pends) (head : Loaded) → IsOpen table schema files current → branch_of s ≡ codes "main" → IsPending table schema sources s files pending → IsCurrent table (branch_of s) files head
+    ensures verdict { (table : Seq ℕ) (schema : TableSchema) (sources : Seq Source) (s : Statement) (files : Files) (current : ℕ)
+        (pending : Pends) (head : Loaded) → IsOpen table schema files current → branch_of s ≡ codes "main"
+        → IsPending table schema sources s files pending → IsCurrent table (branch_of s) files head
         → verdict_at table sources s files pending.base.version current ≡ Ok (verdict pending.plan pending.change.depended (data_files_of pending.base.head) head.head) }
-    ensures keeps { (table : Seq ℕ) (schema : TableSchema) (sources : Seq Source) (s : Statement) (files : Files) (current : ℕ) (pending : Pends) → IsOpen table schema files current → branch_of s ≡ codes "main" → IsPending table schema sources s files pending
+    ensures keeps { (table : Seq ℕ) (schema : TableSchema) (sources : Seq Source) (s : Statement) (files : Files) (current : ℕ)
+        (pending : Pends) → IsOpen table schema files current → branch_of s ≡ codes "main" → IsPending table schema sources s files pending
         → keeps_at table sources s files pending.base.version ≡ Ok (is_no_change pending.change) }
 {}
 

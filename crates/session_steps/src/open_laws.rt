@@ -34,7 +34,9 @@ pub fn a_prepared_version_is_the_next_one()
 /// Once the version that was prepared on an open table stands under its name, and no other name of a version is there anew, the
 /// table is open at it, and has the rows, as a bag, that the statement leaves of those that it had.
 pub fn a_committed_statement_keeps_the_table_open()
-    ensures { (table : Seq ℕ) (schema : TableSchema) (sources : Seq Source) (s : Statement) (files later : Files) (current : ℕ) (pending : Pends) (prepared : Prepared) (was : IsOpen table schema files current) → branch_of s ≡ codes "main" → IsSwapping table schema sources s files pending prepared
+    ensures { (table : Seq ℕ) (schema : TableSchema) (sources : Seq Source) (s : Statement) (files later : Files) (current : ℕ)
+        (pending : Pends) (prepared : Prepared) (was : IsOpen table schema files current) → branch_of s ≡ codes "main"
+        → IsSwapping table schema sources s files pending prepared
         → map.get later prepared.name ≡ Some prepared.bytes → KeepsFiles (Some files) (Some later)
         → ((name : Seq ℕ) → 0 < version_of_name (version_prefix table) name → name ≢ prepared.name
         → map.get later name ≡ map.get files name)

@@ -54,7 +54,9 @@ fn take(
     planned: Planned,
 ) -> Result<Stepped, AllocError>
     requires { session.old.place.at < 2 ^ 63 }
-    ensures turned { IfOk result (λ stepped. plan_turn planned.version session.old.place (answer_of schema.now.columns statement.now planned.outcome) ≡ record { current = planned.version; place = session.new.place; stepped = stepped }) }
+    ensures turned { IfOk result (λ stepped.
+        plan_turn planned.version session.old.place (answer_of schema.now.columns statement.now planned.outcome)
+        ≡ record { current = planned.version; place = session.new.place; stepped = stepped }) }
     ensures pending { OnOk result (session.new.pending ≡ pending_of planned.outcome) }
     ensures names { session.new.names ≡ session.old.names }
 {
@@ -103,6 +105,7 @@ pub(crate) fn plan_step<S: Store>(
     ensures faulted { IfErr result (λ fault. ForSome (S.files store.old) (λ old. CannotStep table.now schema.now statement.now old fault)) }
     ensures shape { OnOk result (HasShape session.new) }
     ensures session { (session.new.names.run ≡ session.old.names.run) × (session.new.names.session ≡ session.old.names.session) }
+    ensures raised { session.old.names.next ≤ session.new.names.next }
     ensures named { AreNames session.new.names }
     ensures free { ForSome (S.files store.new) (NoneFrom table.now session.new.names.run session.new.names.session session.new.names.next) }
     ensures others { LeavesRest table.now session.old.names (S.files store.old) (S.files store.new) }

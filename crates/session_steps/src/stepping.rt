@@ -45,12 +45,14 @@ pub fn step<S: Store>(
         × IsStepOf table.now schema.now sources.now (slice_get statements.now session.old.place.at) old new current session.old.place session.new stepped)) }
     ensures ends { IfErr result (λ fault. ForSome (S.files store.old)
         (λ old. (current : ℕ) → IsOpen table.now schema.now old current → (new : Files) × (S.files store.new ≡ Some new)
-        × EndsOf table.now schema.now sources.now (slice_get statements.now session.old.place.at) old new current fault)) }
+        × EndsOf table.now schema.now sources.now (slice_get statements.now session.old.place.at) old new current session.old.place
+        (S.faults store.old) (S.faults store.new) fault)) }
     ensures faulted { IfErr result (λ fault. ForSome (S.files store.old)
         (λ old. (s : Stated) → slice_get statements.now session.old.place.at ≡ Some s
         → CannotStep table.now schema.now s old fault)) }
     ensures shape { OnOk result (HasShape session.new) }
     ensures session { (session.new.names.run ≡ session.old.names.run) × (session.new.names.session ≡ session.old.names.session) }
+    ensures raised { session.old.names.next ≤ session.new.names.next }
     ensures named { AreNames session.new.names }
     ensures free { ForSome (S.files store.new) (NoneFrom table.now session.new.names.run session.new.names.session session.new.names.next) }
     ensures others { LeavesOthers table.now session.old.names (S.files store.old) (S.files store.new) }

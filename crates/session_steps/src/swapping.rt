@@ -76,6 +76,7 @@ fn swap_prepared<S: Store>(
     ensures later { S.faults store.old ≤ S.faults store.new }
     ensures store { IsErrOf result SwapFault.Store → Rose (S.faults store.old) (S.faults store.new) × (0 < S.unsettled store.new) }
     ensures unknown { IsErrOf result SwapFault.Unknown → RoseTwice (S.faults store.old) (S.faults store.new) × (2 ≤ S.unsettled store.new) }
+    ensures memory { IsErrOf result SwapFault.Memory → (S.files store.new ≡ S.files store.old) ⊎ Rose (S.faults store.old) (S.faults store.new) }
     ensures settled { OnOk result ((S.unsettled store.new ≡ 0) ⊎ ((S.unsettled store.new ≡ S.unsettled store.old)
         × (S.faults store.new ≡ S.faults store.old))) }
 {
@@ -115,7 +116,8 @@ pub(crate) fn swap_step<S: Store>(
         → (new : Files) × (S.files store.new ≡ Some new)
         × IsStep table schema sources s old new current session.old.place session.new stepped)) }
     ensures ends { IfErr result (λ fault. (prepared : Version) → session.old.prepared ≡ Some prepared
-        → LeftBy prepared.name prepared.bytes (S.files store.old) (S.files store.new) fault) }
+        → LeftBy prepared.name prepared.bytes (S.files store.old) (S.files store.new) (S.faults store.old) (S.faults store.new)
+        fault) }
     ensures swaps { (prepared : Version) → session.old.prepared ≡ Some prepared
         → (S.files store.new ≡ S.files store.old) ⊎ (S.files store.new ≡ option_map (swapped prepared.name prepared.bytes)
         (S.files store.old)) }

@@ -89,6 +89,7 @@ pub(crate) fn validate_step<S: Store>(
         → HasPending table.now schema sources s old session.old → CannotStep table.now schema s old fault)) }
     ensures shape { OnOk result (HasShape session.new) }
     ensures session { (session.new.names.run ≡ session.old.names.run) × (session.new.names.session ≡ session.old.names.session) }
+    ensures raised { session.old.names.next ≤ session.new.names.next }
     ensures named { AreNames session.new.names }
     ensures free { ForSome (S.files store.new) (NoneFrom table.now session.new.names.run session.new.names.session session.new.names.next) }
     ensures others { LeavesRest table.now session.old.names (S.files store.old) (S.files store.new) }

@@ -7,11 +7,11 @@ use Rattle.branch_commit.specs.Validation.{IsFound}
 use Rattle.branch_commit.proofs.validating.validate.Goals as goal
 
 -- src/validating.rt:130:9
-pub returns-then-not-has_next-clause-refused : goal.returns-then-not-has_next-clause-refused
-returns-then-not-has_next-clause-refused g c files is = (
+pub returns-then-not-has_numbers-clause-refused : goal.returns-then-not-has_numbers-clause-refused
+returns-then-not-has_numbers-clause-refused g c files is = (
   c.in-Ok.head,
   subst (λ (branch : List ℕ). IsCurrent c.args.table.now branch files c.in-Ok.head) c.as_str.ensures (c.in-Ok.ensures.ok files is),
-  sym c.if-not-has_next.ensures,
+  sym c.if-not-has_numbers.ensures,
   c.from_string.ensures ∙ c.in_ok-name.ensures,
 )
 

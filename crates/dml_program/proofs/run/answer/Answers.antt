@@ -2,7 +2,7 @@ use Rattle.std.proofs.Common.{ℕ, List, [], Some, refl, sym, subst}
 use Rattle.command_line.specs.Words.{wanted}
 use Rattle.dml_program.specs.Answers.{Prints, Writes, report_lines}
 use Rattle.dml_program.proofs.Reports.{carried_on, completes, done_carried, done_completes, done_leaves, fault_report, left_by, printed}
-use Rattle.dml_program.proofs.ScriptReports.{none_run, settled_by, written_is_no_fault}
+use Rattle.dml_program.proofs.ScriptReports.{ended_is_done, none_run, settled_by, told_is_no_end, written_is_no_fault}
 use Rattle.dml_program.proofs.ToldAnswers.{told_anyway, told_map}
 use Rattle.dml_program.proofs.run.answer.Goals as goal
 
@@ -67,7 +67,10 @@ returns-in-Err-clause-report g c =
 -- ---- it runs no script
 
 pub returns-in-Ok-clause-quiet : goal.returns-in-Ok-clause-quiet
-returns-in-Ok-clause-quiet g c done = (settled_by (Some (wanted c.args.command)) _ _ _ c.in-Ok.ensures.quiet.0, c.in-Ok.ensures.quiet.1, c.write_lines.ensures.quiet done)
+returns-in-Ok-clause-quiet g c done = (settled_by (Some (wanted c.args.command)) _ _ _ c.in-Ok.ensures.quiet.0, c.in-Ok.ensures.quiet.1, c.write_lines.ensures.quiet (ended_is_done c.write_lines.result c.write_lines.ensures.status done))
+
+pub returns-in-Err-clause-quiet : goal.returns-in-Err-clause-quiet
+returns-in-Err-clause-quiet g c done = absurd (told_is_no_end c.in-Err.status c.write_fault.result c.in-Err.ensures.kind c.write_fault.ensures.status done)
 
 pub returns-in-Ok-clause-fault_lines : goal.returns-in-Ok-clause-fault_lines
 returns-in-Ok-clause-fault_lines g c fault = absurd (written_is_no_fault c.write_lines.result c.write_lines.ensures.status fault)

@@ -1,9 +1,10 @@
-use Rattle.std.proofs.Common.{ℕ, List, [], Option, ap, inr, refl, sym, subst, ◌∙◌}
+use Rattle.std.proofs.Common.{◌≡◌, ℕ, List, [], Option, Some, ap, inr, refl, sym, subst, ◌∙◌}
 use Rattle.store_core.specs.Files.{Files, bytes_of}
 use Rattle.dml_program.specs.Answers.{LeavesAnswered, Writes, refused, report_lines}
 use Rattle.dml_program.specs.Beginning.{begun_of}
+use Rattle.dml_program.specs.ScriptRuns.{IsRan}
 use Rattle.dml_program.proofs.Reports.{fault_report}
-use Rattle.dml_program.proofs.ScriptReports.{began, each_refusal, none_refused, run_input, stops_carry, stops_complete, stops_leave, unbegun_is_fault, unbegun_runs}
+use Rattle.dml_program.proofs.ScriptReports.{began, each_refusal, none_refused, run_input, stops_carry, stops_complete, stops_leave, told_is_no_end, unbegun_is_fault, unbegun_runs}
 use Rattle.dml_program.proofs.run.run.Goals as goal
 
 -- ---- the run began
@@ -25,7 +26,8 @@ returns-in-Ok-clause-input g c = run_input c.run_begun.result _ _ _ c.run_begun.
 
 pub returns-in-Ok-clause-runs : goal.returns-in-Ok-clause-runs
 returns-in-Ok-clause-runs g c files told inputs given =
-    began (begun_of c.args.table.now c.args.script.now files inputs) c.in-Ok.begun _ (c.in-Ok.ensures.found files told inputs given) (inr (c.run_begun.ensures.runs files (c.begin.ensures.files ∙ told)))
+    began (begun_of c.args.table.now c.args.script.now files inputs) c.in-Ok.begun _ (c.in-Ok.ensures.found files told inputs given)
+    (inr (subst (λ (count : ℕ). (new : Files) × (g.S.Store.files c.run_begun.new.store ≡ Some new) × IsRan c.args.table.now c.in-Ok.begun files new count (g.S.Store.faults c.run_begun.new.store) c.run_begun.result (g.K.Sink.written c.args.out.now) (g.K.Sink.written c.run_begun.new.out) (g.K.Sink.faults c.args.out.now) (g.K.Sink.faults c.run_begun.new.out)) c.in-Ok.ensures.quiet.0 (c.run_begun.ensures.runs files (c.begin.ensures.files ∙ told))))
 
 pub returns-in-Ok-clause-fault_lines : goal.returns-in-Ok-clause-fault_lines
 returns-in-Ok-clause-fault_lines g c fault =
@@ -57,7 +59,7 @@ returns-in-Err-clause-fault_lines g c fault = ([], (λ nothing. refl), c.write_f
 
 pub returns-in-Err-clause-runs : goal.returns-in-Err-clause-runs
 returns-in-Err-clause-runs g c files told inputs given =
-    unbegun_runs files (g.K.Sink.written c.args.out.now) (g.K.Sink.written c.write_fault.new.out) (g.K.Sink.faults c.args.out.now) (g.K.Sink.faults c.write_fault.new.out) (g.S.Store.files c.begin.new.store) (g.I.Inputs.faults c.args.inputs.now) (g.I.Inputs.faults c.begin.new.inputs) c.args.table.now c.args.script.now inputs (c.begin.ensures.files ∙ told) c.in-Err.status c.write_fault.result
+    unbegun_runs files (g.S.Store.faults c.args.store.now) (g.S.Store.faults c.begin.new.store) (g.K.Sink.written c.args.out.now) (g.K.Sink.written c.write_fault.new.out) (g.K.Sink.faults c.args.out.now) (g.K.Sink.faults c.write_fault.new.out) (g.S.Store.files c.begin.new.store) (g.I.Inputs.faults c.args.inputs.now) (g.I.Inputs.faults c.begin.new.inputs) c.args.table.now c.args.script.now inputs (c.begin.ensures.files ∙ told) c.in-Err.status c.write_fault.result
     (c.in-Err.ensures.refused files told inputs given) c.in-Err.ensures.kind c.write_fault.ensures.status c.write_fault.ensures.report
 
 -- ---- the table and its files
@@ -67,3 +69,6 @@ run_begun-requires-clause-open g c files told = c.in-Ok.ensures.open files (sym 
 
 pub returns-in-Ok-clause-kept : goal.returns-in-Ok-clause-kept
 returns-in-Ok-clause-kept g c name bytes there = c.run_begun.ensures.kept name bytes (ap (λ (files : Option Files). bytes_of files name) c.begin.ensures.files ∙ there)
+
+pub returns-in-Err-clause-quiet : goal.returns-in-Err-clause-quiet
+returns-in-Err-clause-quiet g c done = absurd (told_is_no_end c.in-Err.status c.write_fault.result (unbegun_is_fault c.in-Err.status c.in-Err.ensures.kind) c.write_fault.ensures.status done)

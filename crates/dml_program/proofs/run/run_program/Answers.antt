@@ -9,7 +9,7 @@ use Rattle.dml_program.specs.ScriptRuns.{IsRan, IsUnread, OfRun}
 use Rattle.dml_program.specs.Statuses.{fault_lines}
 use Rattle.dml_program.specs.declared.status.Status.TheVariants as status
 use Rattle.dml_program.proofs.Reports.{fault_report}
-use Rattle.dml_program.proofs.ScriptReports.{memory_of_run, memory_report, no_run, nothing_writes, stops_leave, swap_either, usage_carried}
+use Rattle.dml_program.proofs.ScriptReports.{memory_of_run, memory_report, no_run, nothing_writes, stops_leave, swap_either, told_is_no_end, usage_carried}
 use Rattle.dml_program.proofs.ToldAnswers.{told_anyway, told_usage}
 use Rattle.dml_program.proofs.run.run_program.Goals as goal
 
@@ -53,7 +53,7 @@ returns-in-Ok-Run-clause-fault_lines g c fault =
 pub returns-in-Ok-Run-clause-runs : goal.returns-in-Ok-Run-clause-runs
 returns-in-Ok-Run-clause-runs g c =
     let asks = c.in-Ok-Run.ensures.found ∙ ap (λ (m : Command). Some (wanted m)) c.in-Ok-Run.field-0-is in
-    subst (λ (d : Option Wanted). OfRun d (g.S.Store.files c.args.store.now) (g.I.Inputs.contents c.args.inputs.now) (λ table begun files. IsUnread c.run.result (g.I.Inputs.faults c.args.inputs.now) (g.I.Inputs.faults c.run.new.inputs) files (g.S.Store.files c.run.new.store) ⊎ ((new : Files) × ((g.S.Store.files c.run.new.store) ≡ Some new) × IsRan table begun files new c.run.result (g.K.Sink.written c.args.out.now) (g.K.Sink.written c.run.new.out) (g.K.Sink.faults c.args.out.now) (g.K.Sink.faults c.run.new.out)))) (sym asks) c.run.ensures.runs
+    subst (λ (d : Option Wanted). OfRun d (g.S.Store.files c.args.store.now) (g.I.Inputs.contents c.args.inputs.now) (λ table begun files. IsUnread c.run.result (g.I.Inputs.faults c.args.inputs.now) (g.I.Inputs.faults c.run.new.inputs) files (g.S.Store.files c.run.new.store) ⊎ ((new : Files) × ((g.S.Store.files c.run.new.store) ≡ Some new) × IsRan table begun files new (g.S.Store.faults c.args.store.now) (g.S.Store.faults c.run.new.store) c.run.result (g.K.Sink.written c.args.out.now) (g.K.Sink.written c.run.new.out) (g.K.Sink.faults c.args.out.now) (g.K.Sink.faults c.run.new.out)))) (sym asks) c.run.ensures.runs
 
 -- ---- another command
 
@@ -95,7 +95,7 @@ returns-in-Ok-clause-fault_lines g c fault =
 pub returns-in-Ok-clause-runs : goal.returns-in-Ok-clause-runs
 returns-in-Ok-clause-runs g c =
     let asks = c.in-Ok.ensures.found in
-    subst (λ (d : Option Wanted). OfRun d (g.S.Store.files c.args.store.now) (g.I.Inputs.contents c.args.inputs.now) (λ table begun files. IsUnread c.answer.result (g.I.Inputs.faults c.args.inputs.now) (g.I.Inputs.faults c.answer.new.inputs) files (g.S.Store.files c.answer.new.store) ⊎ ((new : Files) × ((g.S.Store.files c.answer.new.store) ≡ Some new) × IsRan table begun files new c.answer.result (g.K.Sink.written c.args.out.now) (g.K.Sink.written c.answer.new.out) (g.K.Sink.faults c.args.out.now) (g.K.Sink.faults c.answer.new.out)))) (sym asks) c.answer.ensures.runs
+    subst (λ (d : Option Wanted). OfRun d (g.S.Store.files c.args.store.now) (g.I.Inputs.contents c.args.inputs.now) (λ table begun files. IsUnread c.answer.result (g.I.Inputs.faults c.args.inputs.now) (g.I.Inputs.faults c.answer.new.inputs) files (g.S.Store.files c.answer.new.store) ⊎ ((new : Files) × ((g.S.Store.files c.answer.new.store) ≡ Some new) × IsRan table begun files new (g.S.Store.faults c.args.store.now) (g.S.Store.faults c.answer.new.store) c.answer.result (g.K.Sink.written c.args.out.now) (g.K.Sink.written c.answer.new.out) (g.K.Sink.faults c.args.out.now) (g.K.Sink.faults c.answer.new.out)))) (sym asks) c.answer.ensures.runs
 
 -- ---- no command
 
@@ -135,4 +135,7 @@ pub returns-in-Err-Memory-clause-fault_lines : goal.returns-in-Err-Memory-clause
 returns-in-Err-Memory-clause-fault_lines g c fault = ([], (λ nothing. refl), nothing_writes (g.K.Sink.written c.args.out.now) _ _ refl)
 
 pub returns-in-Err-Memory-clause-runs : goal.returns-in-Err-Memory-clause-runs
-returns-in-Err-Memory-clause-runs g c = memory_of_run (command_of (texts c.args.words.now)) (g.S.Store.files c.args.store.now) (g.I.Inputs.contents c.args.inputs.now) (g.I.Inputs.faults c.args.inputs.now) (g.I.Inputs.faults c.args.inputs.now) (g.K.Sink.written c.args.out.now) (g.K.Sink.faults c.args.out.now) (g.K.Sink.faults c.args.out.now)
+returns-in-Err-Memory-clause-runs g c = memory_of_run (command_of (texts c.args.words.now)) (g.S.Store.files c.args.store.now) (g.I.Inputs.contents c.args.inputs.now) (g.S.Store.faults c.args.store.now) (g.S.Store.faults c.args.store.now) (g.I.Inputs.faults c.args.inputs.now) (g.I.Inputs.faults c.args.inputs.now) (g.K.Sink.written c.args.out.now) (g.K.Sink.faults c.args.out.now) (g.K.Sink.faults c.args.out.now)
+
+pub returns-in-Err-Usage-clause-quiet : goal.returns-in-Err-Usage-clause-quiet
+returns-in-Err-Usage-clause-quiet g c done = absurd (told_is_no_end status.Usage c.write_fault.result tt c.write_fault.ensures.status done)

@@ -4,7 +4,7 @@ use Rattle.session_machine.specs.declared.event.Stepped.{Stepped}
 use Rattle.session_machine.specs.declared.place.Phase.{Phase}
 use Rattle.session_steps.specs.declared.fault.RunFault.TheVariants as run
 use Rattle.session_steps.specs.Steps.{InShape}
-use Rattle.schedule_runner.proofs.Outcomes.{RunsFrom, as_run, finished, full, goes, others_then, runs_now, started, stopped, there}
+use Rattle.schedule_runner.proofs.Outcomes.{RunsFrom, as_run, finished, full, goes, others_then, outcome_then, runs_now, started, stopped, there}
 use Rattle.schedule_runner.proofs.finishing.finish.Goals as goal
 
 pub loop-init : goal.loop-init
@@ -15,6 +15,7 @@ loop-init g c = record {
   shape = subst (λ (p : Phase). InShape c.args.session.now p) (sym c.requires.phase) tt;
   named = c.requires.named;
   session = (refl, refl);
+  raised = omega arith;
   free = c.requires.free;
   told = refl;
   others = λ name no_data no_metadata no_version. refl;
@@ -24,8 +25,8 @@ loop-init g c = record {
 
 pub returns-then-session-statements-clause-runs : goal.returns-then-session-statements-clause-runs
 returns-then-session-statements-clause-runs g c =
-    as_run c.args.table.now c.args.schema.now c.args.sources.now c.args.statements.now c.args.session.now.place (g.S.Store.files c.args.store.now) (g.S.Store.files c.loop.store) c.loop.steps.items c.run_of.result.steps None c.run_of.result.ended c.run_of.ensures.steps c.run_of.ensures.ended
-    (finished c.args.table.now c.args.schema.now c.args.sources.now c.args.statements.now c.args.session.now.place (g.S.Store.files c.args.store.now) c.requires.open (g.S.Store.files c.loop.store) c.loop.session c.loop.steps.items c.loop.invariant.running (slice_get_past c.args.statements.now c.loop.session.place.at (omega (arith, c.if-session-statements.true))))
+    as_run c.args.table.now c.args.schema.now c.args.sources.now c.args.statements.now c.args.session.now.place (g.S.Store.files c.args.store.now) (g.S.Store.files c.loop.store) c.loop.steps.items c.run_of.result.steps (g.S.Store.faults c.args.store.now) (g.S.Store.faults c.loop.store) None c.run_of.result.ended c.run_of.ensures.steps c.run_of.ensures.ended
+    (finished c.args.table.now c.args.schema.now c.args.sources.now c.args.statements.now c.args.session.now.place (g.S.Store.files c.args.store.now) c.requires.open (g.S.Store.files c.loop.store) c.loop.session c.loop.steps.items c.loop.invariant.running (g.S.Store.faults c.args.store.now) (g.S.Store.faults c.loop.store) (slice_get_past c.args.statements.now c.loop.session.place.at (omega (arith, c.if-session-statements.true))))
 
 pub go_on-requires-clause-at_hand : goal.go_on-requires-clause-at_hand
 go_on-requires-clause-at_hand g c = there c.args.statements.now c.loop.session.place.at (omega (arith, c.if-session-statements.false))
@@ -35,13 +36,14 @@ go_on-requires-clause-running g c = runs_now c.args.table.now c.args.schema.now 
 
 pub returns-in-Err-clause-runs : goal.returns-in-Err-clause-runs
 returns-in-Err-clause-runs g c =
-    as_run c.args.table.now c.args.schema.now c.args.sources.now c.args.statements.now c.args.session.now.place (g.S.Store.files c.args.store.now) (g.S.Store.files c.go_on.new.store) c.go_on.new.steps.items c.run_of-in-Err.result.steps (Some c.in-Err.fault) c.run_of-in-Err.result.ended c.run_of-in-Err.ensures.steps c.run_of-in-Err.ensures.ended
-    (stopped c.args.table.now c.args.schema.now c.args.sources.now c.args.statements.now c.args.session.now.place (g.S.Store.files c.args.store.now) c.requires.open (g.S.Store.files c.loop.store) c.loop.session c.loop.steps.items c.loop.invariant.running (g.S.Store.files c.go_on.new.store) c.requires.statements.main c.go_on.ensures.kept (there c.args.statements.now c.loop.session.place.at (omega (arith, c.if-session-statements.false))) c.go_on.new.steps.items c.in-Err.fault c.in-Err.ensures.ends c.in-Err.ensures.faulted
-    (λ number statement is. c.in-Err.ensures.at_hand number statement cc))
+    as_run c.args.table.now c.args.schema.now c.args.sources.now c.args.statements.now c.args.session.now.place (g.S.Store.files c.args.store.now) (g.S.Store.files c.go_on.new.store) c.go_on.new.steps.items c.run_of-in-Err.result.steps (g.S.Store.faults c.args.store.now) (g.S.Store.faults c.go_on.new.store) (Some c.in-Err.fault) c.run_of-in-Err.result.ended c.run_of-in-Err.ensures.steps c.run_of-in-Err.ensures.ended
+    (outcome_then c.args.table.now c.args.schema.now c.args.sources.now c.args.statements.now c.args.session.now.place (g.S.Store.files c.args.store.now) (g.S.Store.files c.go_on.new.store) c.go_on.new.steps.items (g.S.Store.faults c.args.store.now) (g.S.Store.faults c.loop.store) (g.S.Store.faults c.go_on.new.store) (g.S.Store.faults c.go_on.new.store) (Some c.in-Err.fault) c.loop.invariant.later (omega arith)
+    (stopped c.args.table.now c.args.schema.now c.args.sources.now c.args.statements.now c.args.session.now.place (g.S.Store.files c.args.store.now) c.requires.open (g.S.Store.files c.loop.store) c.loop.session c.loop.steps.items c.loop.invariant.running (g.S.Store.files c.go_on.new.store) c.requires.statements.main c.go_on.ensures.kept (there c.args.statements.now c.loop.session.place.at (omega (arith, c.if-session-statements.false))) c.go_on.new.steps.items (g.S.Store.faults c.loop.store) (g.S.Store.faults c.go_on.new.store) c.in-Err.fault c.in-Err.ensures.ends c.in-Err.ensures.faulted
+    (λ number statement is. c.in-Err.ensures.at_hand number statement cc)))
 
 pub returns-in-Err-clause-others : goal.returns-in-Err-clause-others
 returns-in-Err-clause-others g c =
-    others_then c.args.table.now c.args.session.now.names c.loop.session.names (g.S.Store.files c.args.store.now) (g.S.Store.files c.loop.store) (g.S.Store.files c.go_on.new.store) c.loop.invariant.session c.loop.invariant.others c.go_on.ensures.others
+    others_then c.args.table.now c.args.session.now.names c.loop.session.names (g.S.Store.files c.args.store.now) (g.S.Store.files c.loop.store) (g.S.Store.files c.go_on.new.store) c.loop.invariant.session c.loop.invariant.raised c.loop.invariant.others c.go_on.ensures.others
 
 pub loop-preserved : goal.loop-preserved
 loop-preserved g c = record {
@@ -49,14 +51,15 @@ loop-preserved g c = record {
   shape = c.in-Ok.ensures.shape;
   named = c.go_on.ensures.named;
   session = (c.go_on.ensures.session.0 ∙ c.loop.invariant.session.0, c.go_on.ensures.session.1 ∙ c.loop.invariant.session.1);
+  raised = omega (arith, c.loop.invariant.raised, c.go_on.ensures.raised);
   free = c.go_on.ensures.free;
   told = c.go_on.ensures.told ∙ c.loop.invariant.told;
   others =
-      others_then c.args.table.now c.args.session.now.names c.loop.session.names (g.S.Store.files c.args.store.now) (g.S.Store.files c.loop.store) (g.S.Store.files c.go_on.new.store) c.loop.invariant.session c.loop.invariant.others c.go_on.ensures.others;
+      others_then c.args.table.now c.args.session.now.names c.loop.session.names (g.S.Store.files c.args.store.now) (g.S.Store.files c.loop.store) (g.S.Store.files c.go_on.new.store) c.loop.invariant.session c.loop.invariant.raised c.loop.invariant.others c.go_on.ensures.others;
   kept = λ name bytes held. c.go_on.ensures.kept name bytes (c.loop.invariant.kept name bytes held);
   later = omega (arith, c.loop.invariant.later, c.go_on.ensures.later);
 }
 
 pub returns-clause-runs : goal.returns-clause-runs
 returns-clause-runs g c =
-    as_run c.args.table.now c.args.schema.now c.args.sources.now c.args.statements.now c.args.session.now.place (g.S.Store.files c.args.store.now) (g.S.Store.files c.loop.store) c.loop.steps.items c.run_of-2.result.steps (Some run.Memory) c.run_of-2.result.ended c.run_of-2.ensures.steps c.run_of-2.ensures.ended (full c.args.table.now c.args.schema.now c.args.sources.now c.args.statements.now c.args.session.now.place (g.S.Store.files c.args.store.now) c.requires.open (g.S.Store.files c.loop.store) c.loop.session c.loop.steps.items c.loop.invariant.running)
+    as_run c.args.table.now c.args.schema.now c.args.sources.now c.args.statements.now c.args.session.now.place (g.S.Store.files c.args.store.now) (g.S.Store.files c.loop.store) c.loop.steps.items c.run_of-2.result.steps (g.S.Store.faults c.args.store.now) (g.S.Store.faults c.loop.store) (Some run.Memory) c.run_of-2.result.ended c.run_of-2.ensures.steps c.run_of-2.ensures.ended (full c.args.table.now c.args.schema.now c.args.sources.now c.args.statements.now c.args.session.now.place (g.S.Store.files c.args.store.now) c.requires.open (g.S.Store.files c.loop.store) c.loop.session c.loop.steps.items c.loop.invariant.running (g.S.Store.faults c.args.store.now) (g.S.Store.faults c.loop.store))

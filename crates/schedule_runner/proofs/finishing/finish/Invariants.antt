@@ -14,6 +14,7 @@ invariant-loop g l = record {
   shape : HasShape l.session;
   named : AreNames l.session.names;
   session : (l.session.names.run ≡ l.initial.session.names.run) × (l.session.names.session ≡ l.initial.session.names.session);
+  raised : l.initial.session.names.next ≤ l.session.names.next;
   free : ForSome (g.S.Store.files l.store) (NoneFrom l.table l.session.names.run l.session.names.session l.session.names.next);
   told : is_some (g.S.Store.files l.store) ≡ is_some (g.S.Store.files l.initial.store);
   others : LeavesOthers l.table l.initial.session.names (g.S.Store.files l.initial.store) (g.S.Store.files l.store);

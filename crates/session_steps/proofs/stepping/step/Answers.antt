@@ -32,7 +32,7 @@ returns-in-Plan-clause-steps g c =
 pub returns-in-Plan-clause-ends : goal.returns-in-Plan-clause-ends
 returns-in-Plan-clause-ends g c =
     let found = slice_get_read c.args.statements.now (length c.args.statements.now) c.args.session.now.place.at c.in-Some.statement.now refl c.in-Some.ensures.lookup.3.0 c.in-Some.ensures.lookup.1 in
-    each_err c.plan_step.result (λ fault files told current was. ends_as_before c.args.table.now c.args.schema.now files current c.args.session.now.names was c.args.sources.now c.in-Some.statement.now fault (slice_get c.args.statements.now c.args.session.now.place.at) (g.S.Store.files c.args.store.now) (g.S.Store.files c.plan_step.new.store) found told c.plan_step.ensures.kept c.plan_step.ensures.others)
+    each_err c.plan_step.result (λ fault files told current was. ends_as_before c.args.table.now c.args.schema.now files current c.args.session.now.names was c.args.sources.now c.in-Some.statement.now c.args.session.now.place (g.S.Store.faults c.args.store.now) (g.S.Store.faults c.plan_step.new.store) fault (slice_get c.args.statements.now c.args.session.now.place.at) (g.S.Store.files c.args.store.now) (g.S.Store.files c.plan_step.new.store) found told c.plan_step.ensures.kept c.plan_step.ensures.others)
 
 pub returns-in-Plan-clause-unknown : goal.returns-in-Plan-clause-unknown
 returns-in-Plan-clause-unknown g c =
@@ -49,7 +49,7 @@ returns-in-Validate-clause-steps g c =
 pub returns-in-Validate-clause-ends : goal.returns-in-Validate-clause-ends
 returns-in-Validate-clause-ends g c =
     let found = slice_get_read c.args.statements.now (length c.args.statements.now) c.args.session.now.place.at c.in-Some.statement.now refl c.in-Some.ensures.lookup.3.0 c.in-Some.ensures.lookup.1 in
-    each_err c.validate_step.result (λ fault files told current was. ends_as_before c.args.table.now c.args.schema.now files current c.args.session.now.names was c.args.sources.now c.in-Some.statement.now fault (slice_get c.args.statements.now c.args.session.now.place.at) (g.S.Store.files c.args.store.now) (g.S.Store.files c.validate_step.new.store) found told c.validate_step.ensures.kept c.validate_step.ensures.others)
+    each_err c.validate_step.result (λ fault files told current was. ends_as_before c.args.table.now c.args.schema.now files current c.args.session.now.names was c.args.sources.now c.in-Some.statement.now c.args.session.now.place (g.S.Store.faults c.args.store.now) (g.S.Store.faults c.validate_step.new.store) fault (slice_get c.args.statements.now c.args.session.now.place.at) (g.S.Store.files c.args.store.now) (g.S.Store.files c.validate_step.new.store) found told c.validate_step.ensures.kept c.validate_step.ensures.others)
 
 pub returns-in-Validate-clause-unknown : goal.returns-in-Validate-clause-unknown
 returns-in-Validate-clause-unknown g c =
@@ -69,7 +69,7 @@ returns-in-Swap-clause-ends g c =
     let main = all_at (λ (s : Statement). branch_of s ≡ codes "main") c.args.statements.now c.args.session.now.place.at c.in-Some.statement.now c.requires.statements.main found in
     if_err c.swap_step.result c.swap_step.ensures.ends (λ fault left files told current was.
     let has = held_in c.args.table.now c.args.schema.now c.args.sources.now files c.args.session.now (slice_get c.args.statements.now c.args.session.now.place.at) c.in-Some.statement.now phase.Swap found c.in-Swap.is (c.requires.held files told) in
-    swap_ends_of c.args.table.now c.args.schema.now c.args.sources.now c.in-Some.statement.now files current c.args.session.now was has main (g.S.Store.files c.args.store.now) (g.S.Store.files c.swap_step.new.store) told (slice_get c.args.statements.now c.args.session.now.place.at) found fault (left has.prepared has.made))
+    swap_ends_of c.args.table.now c.args.schema.now c.args.sources.now c.in-Some.statement.now files current c.args.session.now was has main (g.S.Store.files c.args.store.now) (g.S.Store.files c.swap_step.new.store) told (g.S.Store.faults c.args.store.now) (g.S.Store.faults c.swap_step.new.store) c.in-Swap.is (slice_get c.args.statements.now c.args.session.now.place.at) found fault (left has.prepared has.made))
 
 pub returns-in-Swap-clause-free : goal.returns-in-Swap-clause-free
 returns-in-Swap-clause-free g c =
@@ -107,7 +107,7 @@ returns-in-Swap-clause-faulted g c =
     let found = slice_get_read c.args.statements.now (length c.args.statements.now) c.args.session.now.place.at c.in-Some.statement.now refl c.in-Some.ensures.lookup.3.0 c.in-Some.ensures.lookup.1 in
     if_err c.swap_step.result c.swap_step.ensures.ends (λ fault left files told s is.
     let has = (held_in c.args.table.now c.args.schema.now c.args.sources.now files c.args.session.now (slice_get c.args.statements.now c.args.session.now.place.at) c.in-Some.statement.now phase.Swap found c.in-Swap.is (c.requires.held files told)) in
-    faulted.at_hand c.args.table.now c.args.schema.now files (slice_get c.args.statements.now c.args.session.now.place.at) c.in-Some.statement.now s found is fault (faulted.by_swap c.args.table.now c.args.schema.now c.in-Some.statement.now files has.prepared.name has.prepared.bytes (g.S.Store.files c.args.store.now) (g.S.Store.files c.swap_step.new.store) fault (left has.prepared has.made)))
+    faulted.at_hand c.args.table.now c.args.schema.now files (slice_get c.args.statements.now c.args.session.now.place.at) c.in-Some.statement.now s found is fault (faulted.by_swap c.args.table.now c.args.schema.now c.in-Some.statement.now files has.prepared.name has.prepared.bytes (g.S.Store.files c.args.store.now) (g.S.Store.files c.swap_step.new.store) (g.S.Store.faults c.args.store.now) (g.S.Store.faults c.swap_step.new.store) fault (left has.prepared has.made)))
 
 pub returns-in-Swap-clause-told : goal.returns-in-Swap-clause-told
 returns-in-Swap-clause-told g c = told_after c.args.session.now.prepared (has_version c.args.session.now c.in-Swap.is c.requires.shape) (g.S.Store.files c.args.store.now) (g.S.Store.files c.swap_step.new.store) c.swap_step.ensures.swaps
