@@ -1,5 +1,7 @@
 -- Numbers are written byte by byte.
-use Rattle.std.proofs.Common.{◌≡◌, ℕ, zero, suc, ◌-◌, ◌/◌, ◌%◌, ◌<◌, arith, Bool, sym, ap, ◌∙◌, List, [], ◌∷◌, ◌++◌, append_assoc}
+use Rattle.std.proofs.Common.{◌≡◌, ℕ, zero, suc, ◌-◌, ◌/◌, ◌%◌, ◌<◌, arith, Bool, sym, ap, ◌∙◌, List, [], ◌∷◌, ◌++◌, append_assoc, Result}
+use Rattle.plain_types.specs.Appends.{Appends}
+use Rattle.plain_types.proofs.CallerLemmas.{appends_more}
 use Rattle.kind_values.specs.LittleEndian.{lowest_first}
 use Rattle.kind_values.specs.BigEndian.{digit, digits_of}
 
@@ -23,7 +25,7 @@ unfolding lowest_first
 lowest_step zero number some = absurd (omega arith)
 lowest_step (suc more) number some = ap (λ (n : ℕ). number % 256 ∷ lowest_first n (number / 256)) (sym (one_less more))
 
-pub lowest_begin : (count number : ℕ) (out before after : List ℕ) → 0 < count → before ≡ out ++ (number % 256) ∷ []
-    → after ≡ before ++ lowest_first (count - 1) (number / 256) → after ≡ out ++ lowest_first count number
-lowest_begin count number out before after some b a =
-    rw (a, b) (append_assoc out ((number % 256) ∷ []) (lowest_first (count - 1) (number / 256)) ∙ ap (λ (xs : List ℕ). out ++ xs) (sym (lowest_step count number some)))
+pub lowest_begin : {E : Type 0} (count number : ℕ) (out before after : List ℕ) (r : Result (Unit {0}) E) → 0 < count → before ≡ out ++ (number % 256) ∷ []
+    → Appends before after (lowest_first (count - 1) (number / 256)) r → Appends out after (lowest_first count number) r
+lowest_begin count number out before after r some b a =
+    appends_more out ((number % 256) ∷ []) (lowest_first (count - 1) (number / 256)) (lowest_first count number) before after r b a (lowest_step count number some)

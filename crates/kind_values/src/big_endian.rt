@@ -1,4 +1,5 @@
 //! Whole numbers of at most 16 bytes, the highest byte first.
+ghost use Rattle.plain_types.specs.Appends.{Appends};
 ghost use Rattle.std.specs.Prelude.{◌≡◌, length, ◌≤◌, ◌+◌, ◌++◌, pos, ◌+ℤ◌, ◌*ℤ◌, OnOk};
 ghost use Rattle.kind_values.specs.BigEndian.{
   Within,
@@ -78,7 +79,7 @@ fn write_digits(
     size: u128,
     out: &mut Vec<u8>,
 ) -> Result<(), AllocError>
-    ensures { OnOk result (out.new.items ≡ out.old.items ++ digits_of negative count size) }
+    ensures { Appends out.old.items out.new.items (digits_of negative count size) result }
 {
     if count == 0 {
         return Ok(());
@@ -121,14 +122,14 @@ pub fn byte_count(number: i128) -> usize
 
 /// Appends the number in so many bytes of big-endian two's complement. One that takes more loses the highest.
 pub fn write_signed_in(count: usize, number: i128, out: &mut Vec<u8>) -> Result<(), AllocError>
-    ensures { OnOk result (out.new.items ≡ out.old.items ++ bytes_in count number) }
+    ensures { Appends out.old.items out.new.items (bytes_in count number) result }
 {
     write_digits(number < 0, count, size_of(number), out)
 }
 
 /// Appends the number in the fewest bytes of big-endian two's complement.
 pub fn write_signed(number: i128, out: &mut Vec<u8>) -> Result<(), AllocError>
-    ensures { OnOk result (out.new.items ≡ out.old.items ++ signed_bytes number) }
+    ensures { Appends out.old.items out.new.items (signed_bytes number) result }
 {
     write_signed_in(byte_count(number), number, out)
 }

@@ -1,4 +1,5 @@
 //! Whole numbers of 4 or 8 bytes, the lowest byte first.
+ghost use Rattle.plain_types.specs.Appends.{Appends};
 ghost use Rattle.std.specs.Prelude.{◌≡◌, ◌+◌, ◌++◌, ◌*◌, ◌^◌, ◌<◌, OnOk};
 ghost use Rattle.kind_values.specs.LittleEndian.{with_sign, int_of, long_of, lowest_first, without_sign, int_bytes, long_bytes};
 
@@ -74,7 +75,7 @@ pub fn long_of(bytes: &[u8]) -> Option<i64>
 /// Appends so many bytes of a number.
 #[tactic(auto, using(crate::proofs::Steps::lowest_begin), unfolding(crate::specs::LittleEndian::lowest_first))]
 fn write_lowest_first(count: u8, number: u64, out: &mut Vec<u8>) -> Result<(), AllocError>
-    ensures { OnOk result (out.new.items ≡ out.old.items ++ lowest_first count number) }
+    ensures { Appends out.old.items out.new.items (lowest_first count number) result }
 {
     if count == 0 {
         return Ok(());
@@ -92,7 +93,7 @@ fn without_sign_32(number: i32) -> u32
 
 /// Appends the four bytes of a whole number in little-endian two's complement.
 pub fn write_int(number: i32, out: &mut Vec<u8>) -> Result<(), AllocError>
-    ensures { OnOk result (out.new.items ≡ out.old.items ++ int_bytes number) }
+    ensures { Appends out.old.items out.new.items (int_bytes number) result }
 {
     write_lowest_first(4, u64::from(without_sign_32(number)), out)
 }
@@ -106,7 +107,7 @@ fn without_sign_64(number: i64) -> u64
 
 /// Appends the eight bytes of a whole number in little-endian two's complement.
 pub fn write_long(number: i64, out: &mut Vec<u8>) -> Result<(), AllocError>
-    ensures { OnOk result (out.new.items ≡ out.old.items ++ long_bytes number) }
+    ensures { Appends out.old.items out.new.items (long_bytes number) result }
 {
     write_lowest_first(8, without_sign_64(number), out)
 }

@@ -1,4 +1,5 @@
 //! Writes a bound.
+ghost use Rattle.plain_types.specs.Appends.{Appends};
 ghost use Rattle.std.specs.Prelude.{◌≡◌, ◌++◌, OnOk};
 ghost use Rattle.kind_values.specs.Bounds.{bytes_of};
 
@@ -9,7 +10,7 @@ use std::alloc::AllocError;
 
 /// Appends the bytes of the value, which NULL has none of.
 pub fn write_bound(value: &Value, out: &mut Vec<u8>) -> Result<(), AllocError>
-    ensures { OnOk result (out.new.items ≡ out.old.items ++ bytes_of value.now) }
+    ensures { Appends out.old.items out.new.items (bytes_of value.now) result }
 {
     match value {
         Value::Null => Ok(()),
@@ -25,7 +26,7 @@ pub fn write_bound(value: &Value, out: &mut Vec<u8>) -> Result<(), AllocError>
 }
 
 fn write_bool(b: bool, out: &mut Vec<u8>) -> Result<(), AllocError>
-    ensures { OnOk result (out.new.items ≡ out.old.items ++ bytes_of (Value.Bool b)) }
+    ensures { Appends out.old.items out.new.items (bytes_of (Value.Bool b)) result }
 {
     out.push(if b { 1 } else { 0 })?;
     Ok(())

@@ -1,3 +1,4 @@
+mod AppendLaws
 mod BagLaws
 mod ByteOrderLaws
 pub mod CallerLemmas

@@ -1,4 +1,5 @@
 pub mod Answers
+pub mod Appends
 pub mod Bags
 pub mod ByteOrder
 pub mod Causes
