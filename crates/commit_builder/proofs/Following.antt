@@ -10,7 +10,8 @@ use Rattle.table_metadata.specs.Metadata.{parts}
 use Rattle.table_metadata.specs.References.{has_snapshot}
 use Rattle.table_state.specs.declared.state.State.{State}
 use Rattle.change_sets.specs.declared.change.ChangeSet.{ChangeSet}
-use Rattle.iceberg_schema.specs.Widths.{IsInt}
+use Rattle.iceberg_schema.specs.Widths.{IsInt, IsLong}
+use Rattle.iceberg_schema.proofs.CallerLemmas.{between, long_below, long_least}
 use Rattle.metadata_writer.specs.PartsAfter.{CanFollow}
 use Rattle.commit_builder.specs.Commits.{live_in, snapshot_in}
 use Rattle.commit_builder.specs.NextVersion.{HasNumbers}
@@ -85,17 +86,35 @@ module _ (head : State) (change : ChangeSet) (names : Names) (now : ℤ) (number
   id_is : IsId (next_id ids) ≡ true
   id_is = next_is_id ids
 
+  -- the greater of two numbers of 64 bits has 64 bits
+  later_is_long : (m n : ℤ) → IsLong m → IsLong n → IsLong (int_max m n)
+  later_is_long m n h k =
+      let least = long_least m h in
+      let most = long_below m h in
+      let most_of = long_below n k in
+      between (int_max m n) (grind (arith, ints, least)) (grind (arith, ints, most, most_of))
+
+  hour_is : IsLong (int_max now head.metadata.last_updated_ms)
+  hour_is = later_is_long now head.metadata.last_updated_ms numbers.hour numbers.updated
+
+  number_is : IsLong (head.metadata.last_sequence +ℤ pos 1)
+  number_is = let least = long_least head.metadata.last_sequence numbers.number in
+      between (head.metadata.last_sequence +ℤ pos 1) (grind (arith, ints, least)) (grind (arith, ints, numbers.sequence))
+
+  id_is_long : IsLong (next_id ids)
+  id_is_long = between (next_id ids) (grind (arith, ints, id_is)) (grind (arith, ints, id_is))
+
   pub follows : CanFollow (snapshot_in head change names now) now (parts head.metadata)
   follows = record {
     fits = record {
-      id = grind (arith, ints, id_is);
-      number = grind (arith, ints, numbers.sequence);
-      time = grind (arith, ints, numbers.hour, numbers.updated);
+      id = id_is_long;
+      number = number_is;
+      time = hour_is;
       parent = λ n is. numbers.parent n is;
-      schema = λ n is. let same : head.metadata.current_schema ≡ n = cc in subst (λ m. int_lt m (pos (2 ^ 63)) ≡ true) same numbers.schema.0;
+      schema = λ n is. let same : head.metadata.current_schema ≡ n = cc in subst IsLong same numbers.schema.0;
       schema_int = λ n is. let same : head.metadata.current_schema ≡ n = cc in subst IsInt same numbers.schema.1;
     };
     told = grind (arith, ints, id_is);
     new = no_snapshot (next_id ids) head.metadata.snapshots (not_in_front (next_id ids) (map snapshot_id head.metadata.snapshots) (map entry_snapshot (live_in head.head).data_files) (not_in_front (next_id ids) (map snapshot_id head.metadata.snapshots ++ map entry_snapshot (live_in head.head).data_files) (map entry_snapshot (live_in head.head).deletes) (next_is_new ids numbers.few)));
-    time = grind (arith, ints, numbers.hour, numbers.updated);
+    time = hour_is;
   }

@@ -26,7 +26,7 @@ use Rattle.table_state.specs.States.{IsStateOf}
 use Rattle.commit_builder.specs.Commits.{live_in, parent_of}
 use Rattle.commit_builder.specs.NextVersion.{HasNumbers}
 use Rattle.commit_builder.specs.SnapshotIds.{ids_of, last}
-use Rattle.commit_builder.proofs.PlainForm.{int_is_long}
+use Rattle.iceberg_schema.proofs.CallerLemmas.{long_of_int}
 use Rattle.commit_builder.proofs.Rewriting.{read_soundly}
 
 -- ---- the snapshot of a head is one of the table's
@@ -88,8 +88,9 @@ has_numbers head now version files is small hour few =
     record {
       few = few;
       sequence = small;
+      number = read.sequence;
       hour = hour;
       updated = read.updated;
       parent = parent_is head.table (parts head.metadata) files head.branch head.head read.snapshots is.head;
-      schema = (int_is_long head.metadata.current_schema read.schema_id, read.schema_id);
+      schema = (long_of_int head.metadata.current_schema read.schema_id, read.schema_id);
     }

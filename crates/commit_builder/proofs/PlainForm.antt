@@ -15,7 +15,7 @@ use Rattle.row_values.specs.declared.partition.Spec.{Spec}
 use Rattle.kind_values.specs.Bounds.{is_kind}
 use Rattle.avro_binary.specs.SchemaOnce.{is_id}
 use Rattle.commit_manifests.proofs.CallerLemmas.{both, first, second}
-use Rattle.iceberg_schema.specs.Widths.{IsInt, IsLong}
+use Rattle.iceberg_schema.specs.Widths.{IsInt}
 use Rattle.row_writer.specs.Readable.{AreColumns, are_apart, has_id}
 use Rattle.table_state.specs.Form.{is_plain_column, is_plain_kind, is_plain_schema, is_plain_table, is_plain_writing, is_unpartitioned}
 use Rattle.table_metadata.specs.Metadata.{Parts}
@@ -98,11 +98,6 @@ in_range false n h = absurd cc
 
 bounded : (n : ℤ) → IsInt n → (int_le (neg_ℤ (pos (2 ^ 31))) n && int_le n (pos (2 ^ 31 - 1))) ≡ true
 bounded n h = in_range (int_le (neg_ℤ (pos (2 ^ 31))) n && int_le n (pos (2 ^ 31 - 1))) n h
-
-pub int_is_long : (n : ℤ) → IsInt n → IsLong n
-int_is_long n h =
-    let below : int_le n (pos (2 ^ 31 - 1)) ≡ true = second (int_le (neg_ℤ (pos (2 ^ 31))) n) (int_le n (pos (2 ^ 31 - 1))) (bounded n h) in
-    grind (arith, ints, below)
 
 has_range : {X : Type 0} (b : Bool) (x : X) → b ≡ true → is_some (if b then Some x else None) ≡ true
 has_range true x h = refl

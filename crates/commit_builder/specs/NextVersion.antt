@@ -64,6 +64,7 @@ pub record HoldsChange (head : State) (change : ChangeSet) (names : Names) (now 
 pub record HasNumbers (head : State) (now : ℤ) : Type 0 where
   pub few : length (ids_of head.metadata.snapshots (live_in head.head)) < 2 ^ 62
   pub sequence : int_lt head.metadata.last_sequence last ≡ true
+  pub number : IsLong head.metadata.last_sequence
   pub hour : IsLong now
   pub updated : IsLong head.metadata.last_updated_ms
   pub parent : (n : ℤ) → parent_of head.head ≡ Some n → IsLong n

@@ -1,5 +1,6 @@
 //! The id of a new snapshot.
-ghost use Rattle.std.specs.Prelude.{◌≡◌, ◌++◌, IfOk, OnOk, map, pos};
+ghost use Rattle.std.specs.Prelude.{◌≡◌, IfOk, map, pos};
+ghost use Rattle.plain_types.specs.Appends.{Appends};
 ghost use Rattle.commit_builder.specs.SnapshotIds.{above, entry_snapshot, free_from, greatest, ids_of, next_id, snapshot_id};
 ghost use Rattle.commit_manifests.specs.Sorting.{has_id};
 
@@ -10,7 +11,7 @@ use table_metadata::Snapshot;
 use table_state::LiveSet;
 
 fn push_snapshots(snapshots: &[Snapshot], ids: &mut Vec<i64>) -> Result<(), AllocError>
-    ensures { OnOk result (ids.new.items ≡ ids.old.items ++ map snapshot_id snapshots.now) }
+    ensures { Appends ids.old.items ids.new.items (map snapshot_id snapshots.now) result }
 {
     for snapshot in snapshots {
         ids.push(snapshot.id)?;
@@ -19,7 +20,7 @@ fn push_snapshots(snapshots: &[Snapshot], ids: &mut Vec<i64>) -> Result<(), Allo
 }
 
 fn push_entries(entries: &[Entry], ids: &mut Vec<i64>) -> Result<(), AllocError>
-    ensures { OnOk result (ids.new.items ≡ ids.old.items ++ map entry_snapshot entries.now) }
+    ensures { Appends ids.old.items ids.new.items (map entry_snapshot entries.now) result }
 {
     for entry in entries {
         ids.push(entry.snapshot)?;

@@ -2,3 +2,5 @@
 
 -- A schema that is read is sound.
 pub use Rattle.iceberg_schema.proofs.SchemaSoundness.{sound_schema, untested}
+-- Numbers of 32 and of 64 bits.
+pub use Rattle.iceberg_schema.proofs.WidthLaws.{between, long_below, long_fits, long_least, long_of_int}

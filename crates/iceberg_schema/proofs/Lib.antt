@@ -3,3 +3,4 @@ mod Items
 mod NoFloats
 mod SchemaSoundness
 mod SpecSoundness
+mod WidthLaws

@@ -14,6 +14,10 @@ long_of d = option_and_then as_i64 (as_number d)
 abbrev pub in_int : ℤ → Option ℤ
 in_int n = if int_le (neg_ℤ (pos (2 ^ 31))) n && int_le n (pos (2 ^ 31 - 1)) then Some n else None
 
+-- the number, where it has at most 64 bits
+abbrev pub in_long : ℤ → Option ℤ
+in_long n = if int_le (neg_ℤ (pos (2 ^ 63))) n && int_le n (pos (2 ^ 63 - 1)) then Some n else None
+
 abbrev pub long_at : List ℕ → Data → Option ℤ
 long_at key d = option_and_then long_of (get key d)
 

@@ -1,9 +1,10 @@
 -- What is read of the whole metadata after a commit.
-use Rattle.std.proofs.Common.{◌≡◌, ℕ, ℤ, List, codes, Some, Ok, IsSome, not, option_and_then, refl, sym, ap, subst, ◌∙◌}
+use Rattle.std.proofs.Common.{◌≡◌, ℕ, ℤ, List, codes, Some, Ok, IsSome, false, not, option_and_then, refl, sym, ap, subst, ◌∙◌}
 use Rattle.std.specs.Int.{int_max}
 use Rattle.serde_json.specs.Data.{Data, null, boolean, number, string, array, object}
 use Rattle.serde_json.specs.Find.{get, as_object}
 use Rattle.serde_json.specs.View.{view}
+use Rattle.serde_json.specs.Written.{compact_text, has_float}
 use Rattle.table_metadata.specs.declared.metadata.Metadata.{Metadata}
 use Rattle.table_metadata.specs.declared.snapshots.Snapshot.{Snapshot}
 use Rattle.iceberg_schema.specs.Keys.{int_at, long_at, text_at, whole_of}
@@ -99,3 +100,9 @@ pub committed_parts : (bytes text branch : List ℕ) (s : Snapshot) (writer : Li
     → CanFollow s now (parts m) → metadata_of text ≡ Ok (parts_after branch s now (parts m))
 committed_parts bytes text branch s writer now m e h back is can =
     text-after_snapshot bytes text branch s writer now (view m.json) (parts m) can is.json is.read (committed_json bytes text branch s writer now m e h back is)
+
+pub committed_text : (bytes text branch : List ℕ) (s : Snapshot) (writer : List ℕ) (now : ℤ) (m : Metadata) (e : Data)
+    → e ≡ after_snapshot branch s writer now (view m.json) → (has_float e ≡ false → text ≡ compact_text e) → IsMetadataOf bytes m
+    → text ≡ compact_text (after_snapshot branch s writer now (view m.json))
+committed_text bytes text branch s writer now m e h exact is =
+    rw h at exact (writable-after_snapshot branch s writer now (view m.json) (writable-read bytes (view m.json) is.json)).whole

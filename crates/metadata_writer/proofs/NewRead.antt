@@ -25,6 +25,7 @@ use Rattle.plain_types.proofs.CallerLemmas.{one_value, two_steps}
 use Rattle.plain_types.specs.Steps.{fault_if, or_fault}
 use Rattle.metadata_writer.specs.Commit.{long_data, with_key}
 use Rattle.iceberg_schema.specs.Widths.{IsInt, IsLong}
+use Rattle.iceberg_schema.proofs.CallerLemmas.{long_of_int}
 use Rattle.metadata_writer.specs.NewTable.{Made, IsMadeOf, first_parts, first_version, name_keys, one_item, only_properties, order_data, order_keys, schema_keys, schema_list, spec_data, spec_keys, spec_list, time_keys, version_keys}
 use Rattle.metadata_writer.proofs.ReadAfter.{as_i64-of_integer, same_properties}
 use Rattle.metadata_writer.proofs.Texts.{read_parts}
@@ -53,22 +54,6 @@ unfolding first_version order_keys spec_keys spec_list schema_keys schema_list t
 first_laid t = refl
 
 -- ---- numbers
-
-both : (a b : Bool) → (a && b) ≡ true → (a ≡ true) × (b ≡ true)
-both true true h = (refl, refl)
-both true false h = cc
-both false b h = cc
-
-within : (b : Bool) (n : ℤ) → cond b (Some n) None ≡ Some n → b ≡ true
-within true n h = refl
-within false n h = cc
-
-below : (m : ℕ) → nat_le m (2 ^ 31 - 1) ≡ true → nat_lt m (2 ^ 63) ≡ true
-below m h = grind (arith, nat_tests)
-
-long_of_int : (n : ℤ) → IsInt n → IsLong n
-long_of_int (pos m) h = below m (both (int_le (neg_ℤ (pos (2 ^ 31))) (pos m)) (nat_le m (2 ^ 31 - 1)) (within _ (pos m) h)).1
-long_of_int (negsuc m) h = refl
 
 int_if : (b : Bool) (n m : ℤ) → cond b (Some m) None ≡ Some n → m ≡ n
 int_if true n m h = cc

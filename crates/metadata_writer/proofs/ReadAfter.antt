@@ -14,6 +14,7 @@ use Rattle.plain_types.specs.Steps.{◌>>=◌, by_option}
 use Rattle.metadata_writer.specs.Commit.{after_snapshot, and_item, items_in, snapshot_data, needed_keys, number_keys, summary_data, with_key}
 use Rattle.metadata_writer.specs.Fitting.{Fits}
 use Rattle.iceberg_schema.specs.Widths.{IsLong}
+use Rattle.iceberg_schema.proofs.CallerLemmas.{long_below}
 use Rattle.metadata_writer.specs.Kept.{IsKept}
 use Rattle.metadata_writer.proofs.Kept.{apart, kept-after_snapshot, snapshots-after_snapshot}
 
@@ -93,7 +94,7 @@ snapshots_from-and_item earlier v no_items = refl
 snapshots_from-and_item earlier v (item d ds) = through (snapshot_of d) _ _ (then_one v) (λ s. snapshots_from-and_item (earlier ++ s ∷ []) v ds)
 
 pub as_i64-of_integer : (z : ℤ) → IsLong z → as_i64 (of_integer z) ≡ Some z
-as_i64-of_integer (pos n) h = rw h refl
+as_i64-of_integer (pos n) h = rw (long_below (pos n) h) refl
 as_i64-of_integer (negsuc n) h = refl
 
 -- what is written of a snapshot is read as the snapshot

@@ -1,6 +1,7 @@
 //! The JSON of a table's metadata after a commit.
 ghost use Rattle.std.specs.Prelude.{◌≡◌, ℕ, List, IfOk, Ok};
 ghost use Rattle.serde_json.specs.View.{view};
+ghost use Rattle.serde_json.specs.Written.{compact_text};
 ghost use Rattle.table_metadata.specs.Metadata.{IsMetadataOf, json_of, metadata_of, parts};
 ghost use Rattle.metadata_writer.specs.PartsAfter.{CanFollow, parts_after};
 ghost use Rattle.metadata_writer.specs.Commit.{
@@ -60,6 +61,8 @@ pub fn text_with_snapshot(
     ensures read { IfOk result (λ text. (bytes : List ℕ) → IsMetadataOf bytes metadata.now
         → CanFollow snapshot.now now_ms (parts metadata.now)
         → metadata_of text ≡ Ok (parts_after branch.now snapshot.now now_ms (parts metadata.now))) }
+    ensures compact { IfOk result (λ text. (bytes : List ℕ) → IsMetadataOf bytes metadata.now
+        → text ≡ compact_text (after_snapshot branch.now snapshot.now writer.now now_ms (view metadata.now.json))) }
 {
     let json = with_snapshot(alloc, metadata, branch, snapshot, writer, now_ms)?;
     text(alloc, &json)

@@ -1,4 +1,4 @@
--- The numbers of a JSON text that are read as 64 bits are below 2^63.
+-- The numbers of a JSON text that are read as 64 bits have 64 bits.
 use Rattle.std.proofs.Common.{◌≡◌, ◌^◌, drop, ℕ, ℤ, pos, neg_ℤ, Bool, true, false, ◌&&◌, List, Option, Some, None, option_map, option_and_then, Ordering, Less, Equal, Greater, Ok, Err, refl, subst, arith}
 use Rattle.std.specs.Prelude.{⊤, nat_lt, nat_le, is_some, if◌then◌else◌}
 use Rattle.std.specs.Float.{binary64, float_is_finite}
@@ -15,11 +15,12 @@ use Rattle.serde_json.specs.Read.{float_of, is_integer, max_depth, number_from, 
 use Rattle.serde_json.specs.Written.{has_float}
 use Rattle.plain_types.specs.Steps.{by_option}
 use Rattle.iceberg_schema.specs.Widths.{IsLong}
+use Rattle.iceberg_schema.proofs.CallerLemmas.{between}
 use Rattle.table_metadata.specs.declared.metadata_fault.MetadataFault.TheVariants as fault
 use Rattle.iceberg_schema.specs.Keys.{items_at, long_at, long_of}
 use Rattle.table_metadata.specs.Metadata.{json_of, whole_object}
 
--- ---- a number with a sign is below 2^63
+-- ---- a number with a sign has 64 bits
 
 abbrev IsShort : Num → Type 0
 IsShort (unsigned n) = ⊤
@@ -44,15 +45,26 @@ either : {A : Type 0} (P : A → Type 0) (b : Bool) (x y : Option A) → Then P 
 either P true x y h k = h
 either P false x y h k = k
 
-below : (n : ℕ) → IsLong (neg_ℤ (pos n))
-below n = grind (arith, ints)
+-- what holds of the first where the test says true, and of the second
+tested : {A : Type 0} (P : A → Type 0) (b : Bool) (x y : Option A) → (b ≡ true → Then P x) → Then P y → Then P (if b then x else y)
+tested P true x y h k = h refl
+tested P false x y h k = k
+
+last_of : (a b c : Bool) → (a && b && c) ≡ true → c ≡ true
+last_of true true c h = h
+last_of true false c h = absurd cc
+last_of false b c h = absurd cc
+
+below : (n : ℕ) → nat_le n (2 ^ 63) ≡ true → IsLong (neg_ℤ (pos n))
+below n h = between (neg_ℤ (pos n)) (grind (arith, ints, h)) (grind (arith, ints))
 
 float_short : (sign : Bool) (p : Parts) → Then IsShort (float_of sign p)
 float_short sign p = either IsShort (float_is_finite (nearest binary64 sign p)) (Some (float (nearest binary64 sign p))) None tt tt
 
 number_short : (sign : Bool) (p : Parts) → Then IsShort (number_from sign p)
 number_short false p = either IsShort (is_integer p && nat_lt (digits_of p) (2 ^ 64)) (Some (unsigned (digits_of p))) (float_of false p) tt (float_short false p)
-number_short true p = either IsShort (is_integer p && nat_lt 0 (digits_of p) && nat_le (digits_of p) (2 ^ 63)) (Some (negative (with_sign true (digits_of p)))) (float_of true p) (below (digits_of p)) (float_short true p)
+number_short true p = tested IsShort (is_integer p && nat_lt 0 (digits_of p) && nat_le (digits_of p) (2 ^ 63)) (Some (negative (with_sign true (digits_of p))))
+    (float_of true p) (λ h. below (digits_of p) (last_of (is_integer p) (nat_lt 0 (digits_of p)) (nat_le (digits_of p) (2 ^ 63)) h)) (float_short true p)
 
 text_short : (s : List ℕ) → Then IsShort (number_of s)
 unfolding number_of
@@ -168,7 +180,7 @@ as_array_read (array ds) h = h
 as_array_read (object ms) h = tt
 
 small : (n : ℕ) (b : Bool) → nat_lt n (2 ^ 63) ≡ b → Then IsLong (if b then Some (pos n) else None)
-small n true e = grind (arith, ints, e)
+small n true e = between (pos n) (grind (arith, ints)) e
 small n false e = tt
 
 as_i64_read : (n : Num) → IsShort n → Then IsLong (as_i64 n)

@@ -1,5 +1,6 @@
 // The rows that are hit.
-ghost use Rattle.std.specs.Prelude.{◌≡◌, ◌++◌, [], ◌∷◌, filter, map, IsTrue, IfOk, OnOk};
+ghost use Rattle.std.specs.Prelude.{◌≡◌, [], ◌∷◌, filter, map, IsTrue, IfOk};
+ghost use Rattle.plain_types.specs.Appends.{Appends};
 ghost use Rattle.sql_statements.specs.Effects as spec;
 ghost use Rattle.sql_statements.specs.Fits.{are_wide};
 ghost use Rattle.change_sets.specs.Scanned.{row_of};
@@ -13,7 +14,7 @@ use sql_statements::{Source, Statement};
 use std::alloc::{AllocError, Global};
 
 fn add_hit(alloc: Global, live: &LiveRow, rows: &mut Vec<Row>) -> Result<(), AllocError>
-    ensures { OnOk result (rows.new.items ≡ rows.old.items ++ map row_of (filter is_hit (live.now ∷ []))) }
+    ensures { Appends rows.old.items rows.new.items (map row_of (filter is_hit (live.now ∷ []))) result }
 {
     if live.hit {
         rows.push(copy_row(alloc, live.row.as_slice())?)?;
@@ -23,7 +24,7 @@ fn add_hit(alloc: Global, live: &LiveRow, rows: &mut Vec<Row>) -> Result<(), All
 
 #[tactic(auto, using(crate::proofs::HitSteps::one_more_hit))]
 fn add_hits(alloc: Global, file: &ScannedFile, rows: &mut Vec<Row>) -> Result<(), AllocError>
-    ensures { OnOk result (rows.new.items ≡ rows.old.items ++ hit_in file.now) }
+    ensures { Appends rows.old.items rows.new.items (hit_in file.now) result }
 {
     let live_rows = file.rows.as_slice();
     for live in live_rows {

@@ -1,5 +1,5 @@
 //! Reads the data files of a branch, and keeps those with a row that is hit.
-ghost use Rattle.std.specs.Prelude.{◌≡◌, ◌≢◌, ◌<◌, [], ◌∷◌, Ok, Err, IfOk, IfErr, IsErrOf};
+ghost use Rattle.std.specs.Prelude.{◌≡◌, ◌≢◌, ◌<◌, ◌≤◌, ◌+◌, [], ◌∷◌, length, Ok, Err, IfOk, IfErr, IsErrOf};
 ghost use Rattle.std.specs.Option.{ForSome};
 ghost use Rattle.plain_types.specs.Causes.{HasCause};
 ghost use Rattle.table_metadata.specs.Metadata.{parts};
@@ -34,6 +34,7 @@ fn read_file<S: Store>(
     ensures files { S.files store.new ≡ S.files store.old }
     ensures unsettled { IsErrOf result LoadFault.Store → 0 < S.unsettled store.new }
     ensures cause { HasCause LoadFault.Store LoadFault.Memory (S.faults store.old) (S.faults store.new) result }
+    ensures reads { S.reads store.new ≤ S.reads store.old + 1 }
 {
     let table = state.table.as_str();
     let path = entry.path.as_str();
@@ -64,6 +65,7 @@ fn scan_files<S: Store>(
     ensures files { S.files store.new ≡ S.files store.old }
     ensures unsettled { IsErrOf result LoadFault.Store → 0 < S.unsettled store.new }
     ensures cause { HasCause LoadFault.Store LoadFault.Memory (S.faults store.old) (S.faults store.new) result }
+    ensures reads { S.reads store.new ≤ S.reads store.old + length entries.now }
 {
     let mut scanned = Vec::new(alloc);
     let mut rest = entries;
@@ -93,6 +95,7 @@ pub fn scan<S: Store>(
     ensures files { S.files store.new ≡ S.files store.old }
     ensures unsettled { IsErrOf result LoadFault.Store → 0 < S.unsettled store.new }
     ensures cause { HasCause LoadFault.Store LoadFault.Memory (S.faults store.old) (S.faults store.new) result }
+    ensures reads { S.reads store.new ≤ S.reads store.old + length (data_files_of state.now.head) }
 {
     scan_files(alloc, store, state, filter, data_files_of(&state.head))
 }

@@ -1,5 +1,5 @@
 // One file of a table at a time.
-ghost use Rattle.std.specs.Prelude.{◌≡◌, ◌≢◌, ◌<◌, Ok, Err, IfOk, IfErr, IsErrOf};
+ghost use Rattle.std.specs.Prelude.{◌≡◌, ◌≢◌, ◌<◌, ◌≤◌, ◌+◌, Ok, Err, IfOk, IfErr, IsErrOf};
 ghost use Rattle.std.specs.Option.{ForSome};
 ghost use Rattle.plain_types.specs.Causes.{HasCause};
 ghost use Rattle.table_metadata.specs.Metadata.{parts};
@@ -28,6 +28,7 @@ use table_metadata::{Metadata, MetadataFault, schema_with, spec_with};
 use table_names::name_of;
 
 // The bytes under a name of the store, which the table knows by this path.
+#[tactic(auto, using(crate::proofs::ReadCounts::one_more))]
 fn read_name<S: Store>(
     alloc: Global,
     store: &mut S,
@@ -40,6 +41,7 @@ fn read_name<S: Store>(
     ensures files { S.files store.new ≡ S.files store.old }
     ensures unsettled { IsErrOf result LoadFault.Store → 0 < S.unsettled store.new }
     ensures cause { HasCause LoadFault.Store LoadFault.Memory (S.faults store.old) (S.faults store.new) result }
+    ensures reads { S.reads store.new ≤ S.reads store.old + 1 }
 {
     match store.read(alloc, name) {
         Ok(ReadAnswer::Found(bytes)) => Ok(bytes),
@@ -63,6 +65,7 @@ pub fn read_file<S: Store>(
     ensures files { S.files store.new ≡ S.files store.old }
     ensures unsettled { IsErrOf result LoadFault.Store → 0 < S.unsettled store.new }
     ensures cause { HasCause LoadFault.Store LoadFault.Memory (S.faults store.old) (S.faults store.new) result }
+    ensures reads { S.reads store.new ≤ S.reads store.old + 1 }
 {
     match name_of(alloc, table, location, path)? {
         Some(name) => read_name(alloc, store, path, name.as_str()),
@@ -111,6 +114,7 @@ pub fn read_list_at<S: Store>(
     ensures files { S.files store.new ≡ S.files store.old }
     ensures unsettled { IsErrOf result LoadFault.Store → 0 < S.unsettled store.new }
     ensures cause { HasCause LoadFault.Store LoadFault.Memory (S.faults store.old) (S.faults store.new) result }
+    ensures reads { S.reads store.new ≤ S.reads store.old + 1 }
 {
     match read_file(alloc, store, table, metadata.location.as_str(), path) {
         Ok(bytes) => list_in(alloc, path, bytes.as_slice()),
@@ -158,6 +162,7 @@ pub fn read_manifest_at<S: Store>(
     ensures files { S.files store.new ≡ S.files store.old }
     ensures unsettled { IsErrOf result LoadFault.Store → 0 < S.unsettled store.new }
     ensures cause { HasCause LoadFault.Store LoadFault.Memory (S.faults store.old) (S.faults store.new) result }
+    ensures reads { S.reads store.new ≤ S.reads store.old + 1 }
 {
     match read_file(
         alloc,
@@ -210,6 +215,7 @@ pub fn read_data_file_at<S: Store>(
     ensures files { S.files store.new ≡ S.files store.old }
     ensures unsettled { IsErrOf result LoadFault.Store → 0 < S.unsettled store.new }
     ensures cause { HasCause LoadFault.Store LoadFault.Memory (S.faults store.old) (S.faults store.new) result }
+    ensures reads { S.reads store.new ≤ S.reads store.old + 1 }
 {
     match read_file(alloc, store, table, metadata.location.as_str(), path) {
         Ok(bytes) => rows_in(alloc, metadata, path, bytes.as_slice()),

@@ -1,5 +1,6 @@
 // The live files of manifests, as they are read.
-ghost use Rattle.std.specs.Prelude.{◌≡◌, ◌≢◌, ◌<◌, [], ◌∷◌, ◌++◌, Ok, Err, IfOk, IfErr, IsErrOf, OnOk};
+ghost use Rattle.std.specs.Prelude.{◌≡◌, ◌≢◌, ◌<◌, ◌≤◌, ◌+◌, [], ◌∷◌, length, Ok, Err, IfOk, IfErr, IsErrOf};
+ghost use Rattle.plain_types.specs.Appends.{Appends};
 ghost use Rattle.std.specs.Option.{ForSome};
 ghost use Rattle.plain_types.specs.Causes.{HasCause};
 ghost use Rattle.table_metadata.specs.Metadata.{parts};
@@ -56,8 +57,8 @@ fn move_live(
     data_files: &mut Vec<Entry>,
     deletes: &mut Vec<Entry>,
 ) -> Result<(), AllocError>
-    ensures data_files { OnOk result (data_files.new.items ≡ data_files.old.items ++ live_data entries) }
-    ensures deletes { OnOk result (deletes.new.items ≡ deletes.old.items ++ live_deletes entries) }
+    ensures data_files { Appends data_files.old.items data_files.new.items (live_data entries) result }
+    ensures deletes { Appends deletes.old.items deletes.new.items (live_deletes entries) result }
 {
     for entry in entries.into_vec() {
         place(entry, data_files, deletes)?;
@@ -70,8 +71,8 @@ fn place(
     data_files: &mut Vec<Entry>,
     deletes: &mut Vec<Entry>,
 ) -> Result<(), AllocError>
-    ensures data_files { OnOk result (data_files.new.items ≡ data_files.old.items ++ live_data (entry ∷ [])) }
-    ensures deletes { OnOk result (deletes.new.items ≡ deletes.old.items ++ live_deletes (entry ∷ [])) }
+    ensures data_files { Appends data_files.old.items data_files.new.items (live_data (entry ∷ [])) result }
+    ensures deletes { Appends deletes.old.items deletes.new.items (live_deletes (entry ∷ [])) result }
 {
     if entry.status >= 2 {
         return Ok(());
@@ -99,6 +100,7 @@ pub(crate) fn gather<S: Store>(
     ensures files { S.files store.new ≡ S.files store.old }
     ensures unsettled { IsErrOf result LoadFault.Store → 0 < S.unsettled store.new }
     ensures cause { HasCause LoadFault.Store LoadFault.Memory (S.faults store.old) (S.faults store.new) result }
+    ensures reads { S.reads store.new ≤ S.reads store.old + length rows.now }
 {
     let mut gathered = Gathered::new(alloc);
     let mut rest = rows;

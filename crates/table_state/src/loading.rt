@@ -1,12 +1,22 @@
 // The branch of a version.
-ghost use Rattle.std.specs.Prelude.{◌≡◌, ◌≢◌, ◌<◌, [], Ok, Err, IfOk, IfErr, IsErrOf};
+ghost use Rattle.std.specs.Prelude.{◌≡◌, ◌≢◌, ◌<◌, ◌≤◌, ◌+◌, [], length, Ok, Err, IfOk, IfErr, IsErrOf};
 ghost use Rattle.std.specs.Option.{ForSome};
 ghost use Rattle.plain_types.specs.Causes.{HasCause};
 ghost use Rattle.plain_types.specs.Steps.{fault_as};
 ghost use Rattle.table_metadata.specs.Metadata.{IsMetadataOf, metadata_of, parts};
-ghost use Rattle.table_state.specs.Files.{bytes_under};
+ghost use Rattle.table_state.specs.Files.{bytes_under, list_at};
 ghost use Rattle.table_state.specs.Live.{live_of, without_head};
-ghost use Rattle.table_state.specs.Loading.{loaded_at, loaded_head, loaded_snapshot, read_version};
+ghost use Rattle.table_state.specs.Loading.{
+  files_to_load,
+  loaded_at,
+  loaded_head,
+  loaded_snapshot,
+  manifests_at,
+  manifests_under,
+  read_version,
+  rows_or_none,
+};
+ghost use Rattle.table_metadata.specs.ById.{snapshot_with};
 ghost use Rattle.table_state.specs.States.{IsStateOf, IsVersionOf};
 
 use crate::branches::head_of;
@@ -28,6 +38,7 @@ struct Loaded {
     held: List<LiveCount>,
 }
 
+#[tactic(auto, using(crate::proofs::ReadCounts::one_more))]
 fn read_bytes<S: Store>(alloc: Global, store: &mut S, name: &str) -> Result<Blob, LoadFault>
     ensures ok { IfOk result (λ bytes. ForSome (S.files store.old) (λ files. bytes_under name.now name.now files ≡ Ok bytes)) }
     ensures err { IfErr result (λ f. f ≢ LoadFault.Store → f ≢ LoadFault.Memory
@@ -35,6 +46,7 @@ fn read_bytes<S: Store>(alloc: Global, store: &mut S, name: &str) -> Result<Blob
     ensures files { S.files store.new ≡ S.files store.old }
     ensures unsettled { IsErrOf result LoadFault.Store → 0 < S.unsettled store.new }
     ensures cause { HasCause LoadFault.Store LoadFault.Memory (S.faults store.old) (S.faults store.new) result }
+    ensures reads { S.reads store.new ≤ S.reads store.old + 1 }
 {
     match store.read(alloc, name) {
         Ok(ReadAnswer::Found(bytes)) => Ok(bytes),
@@ -67,6 +79,7 @@ fn read_version<S: Store>(
     ensures files { S.files store.new ≡ S.files store.old }
     ensures unsettled { IsErrOf result LoadFault.Store → 0 < S.unsettled store.new }
     ensures cause { HasCause LoadFault.Store LoadFault.Memory (S.faults store.old) (S.faults store.new) result }
+    ensures reads { S.reads store.new ≤ S.reads store.old + 1 }
 {
     let name = version_name(alloc, table, version)?;
     let bytes = read_bytes(alloc, store, name.as_str())?;
@@ -87,6 +100,8 @@ fn load_snapshot<S: Store>(
     ensures files { S.files store.new ≡ S.files store.old }
     ensures unsettled { IsErrOf result LoadFault.Store → 0 < S.unsettled store.new }
     ensures cause { HasCause LoadFault.Store LoadFault.Memory (S.faults store.old) (S.faults store.new) result }
+    ensures reads { ForSome (S.files store.old) (λ files. S.reads store.new
+        ≤ S.reads store.old + 1 + length (rows_or_none (list_at table.now (parts metadata.now) snapshot.now.list files))) }
 {
     let rows = read_list_at(alloc, store, table, metadata, snapshot.list.as_str())?;
     let Gathered {
@@ -123,6 +138,8 @@ fn load_head<S: Store>(
     ensures files { S.files store.new ≡ S.files store.old }
     ensures unsettled { IsErrOf result LoadFault.Store → 0 < S.unsettled store.new }
     ensures cause { HasCause LoadFault.Store LoadFault.Memory (S.faults store.old) (S.faults store.new) result }
+    ensures reads { ForSome (S.files store.old) (λ files. S.reads store.new
+        ≤ S.reads store.old + 1 + length (manifests_under table.now (parts metadata.now) (snapshot_with id (parts metadata.now).snapshots) files)) }
 {
     match snapshot_with(id, metadata.snapshots.as_slice()) {
         Some(snapshot) => load_snapshot(alloc, store, table, metadata, snapshot),
@@ -162,6 +179,8 @@ fn load_branch<S: Store>(
     ensures files { S.files store.new ≡ S.files store.old }
     ensures unsettled { IsErrOf result LoadFault.Store → 0 < S.unsettled store.new }
     ensures cause { HasCause LoadFault.Store LoadFault.Memory (S.faults store.old) (S.faults store.new) result }
+    ensures reads { ForSome (S.files store.old) (λ files. S.reads store.new
+        ≤ S.reads store.old + 1 + length (manifests_at table.now (parts metadata.now) branch.now files)) }
 {
     match head_of(branch, metadata.refs.as_slice()) {
         Some(id) => load_head(alloc, store, table, metadata, branch, id),
@@ -184,6 +203,7 @@ pub fn load<S: Store>(
     ensures files { S.files store.new ≡ S.files store.old }
     ensures unsettled { IsErrOf result LoadFault.Store → 0 < S.unsettled store.new }
     ensures cause { HasCause LoadFault.Store LoadFault.Memory (S.faults store.old) (S.faults store.new) result }
+    ensures reads { ForSome (S.files store.old) (λ files. S.reads store.new ≤ S.reads store.old + files_to_load table.now version branch.now files) }
 {
     let metadata = match read_version(alloc, store, table, version) {
         Ok(metadata) => metadata,

@@ -1,16 +1,10 @@
-use Rattle.std.proofs.Common.{ℤ, pos, negsuc, w64, refl, to_z-of_z, arith}
-use Rattle.std.specs.Int.RustNames.{FitsSigned}
-use Rattle.std.proofs.lemmas.Bool.Decides.{nat_tests}
+use Rattle.std.proofs.Common.{to_z-of_z}
 use Rattle.std.proofs.lemmas.Result.{IfOk-weaker}
-use Rattle.iceberg_schema.specs.Widths.{IsLong}
+use Rattle.iceberg_schema.proofs.CallerLemmas.{long_fits}
 use Rattle.metadata_writer.specs.NewTable.{made}
 use Rattle.table_definition.specs.Definition.{asked}
 use Rattle.table_definition.proofs.FirstText.{FitsKeys, exact_text, read_text}
 use Rattle.table_definition.proofs.new_table.first_text.Goals as goal
-
-long_fits : (n : ℤ) → FitsSigned w64 n → IsLong n
-long_fits (pos m) f = grind (arith, nat_tests, f.sfits)
-long_fits (negsuc m) f = refl
 
 pub returns-clause-exact : goal.returns-clause-exact
 returns-clause-exact c =

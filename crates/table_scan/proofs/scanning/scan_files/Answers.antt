@@ -17,4 +17,5 @@ loop-rest-preserved g c =
       rows = subst (λ (files : List ScannedFile). AreCurrentFiles p files) (sym c.in_ok-place_hit.ensures) (and_current p c.in_ok-file.file c.loop-rest.scanned.items c.in_ok-file.ensures.rows c.loop-rest.invariant.rows);
       files = search rules;
       faults = search rules;
+      reads = search rules;
     }

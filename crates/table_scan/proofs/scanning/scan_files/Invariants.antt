@@ -1,4 +1,4 @@
-use Rattle.std.proofs.Common.{◌≡◌, [], length}
+use Rattle.std.proofs.Common.{◌≡◌, ◌+◌, ◌≤◌, [], length}
 use Rattle.std.specs.Option.{ForSome}
 use Rattle.table_metadata.specs.Metadata.{parts}
 use Rattle.table_scan.specs.Scanning.{AreCurrentFiles, scanned_from}
@@ -12,6 +12,7 @@ invariant-loop-rest g l = record {
   rows : AreCurrentFiles (parts l.state.metadata) l.scanned.items;
   files : g.S.Store.files l.store ≡ g.S.Store.files l.initial.store;
   faults : g.S.Store.faults l.store ≡ g.S.Store.faults l.initial.store;
+  reads : g.S.Store.reads l.store + length l.rest ≤ g.S.Store.reads l.initial.store + length l.entries;
 }
 
 abbrev pub decreases-loop-rest : goal.decreases-loop-rest

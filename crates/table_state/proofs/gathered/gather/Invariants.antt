@@ -1,4 +1,4 @@
-use Rattle.std.proofs.Common.{◌≡◌, length}
+use Rattle.std.proofs.Common.{◌≡◌, ◌+◌, ◌≤◌, length}
 use Rattle.std.specs.Option.{ForSome}
 use Rattle.table_metadata.specs.Metadata.{parts}
 use Rattle.table_state.specs.Gathering.{gathered_at, nothing, seen}
@@ -11,6 +11,7 @@ invariant-loop-rest g l = record {
       (seen l.gathered) l.rest files ≡ gathered_at l.table (parts l.metadata) nothing l.rows files);
   files : g.S.Store.files l.store ≡ g.S.Store.files l.initial.store;
   faults : g.S.Store.faults l.store ≡ g.S.Store.faults l.initial.store;
+  reads : g.S.Store.reads l.store + length l.rest ≤ g.S.Store.reads l.initial.store + length l.rows;
 }
 
 abbrev pub decreases-loop-rest : goal.decreases-loop-rest
