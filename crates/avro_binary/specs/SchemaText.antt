@@ -52,7 +52,9 @@ or_zero None = Some 0
 or_zero (Some d) = option_and_then as_u64 (as_number d)
 
 unfoldable pub logical_named : List ℕ → Data → Logical
-logical_named name d = if bytes_eq name (codes "date") then Date else (if bytes_eq name (codes "timestamp-micros") then TimestampMicros (unwrap_or (option_and_then as_bool (get (codes "adjust-to-utc") d)) false) else (if bytes_eq name (codes "decimal") then decimal (number_at (codes "precision") d) (or_zero (get (codes "scale") d)) else Other name))
+logical_named name d = if bytes_eq name (codes "date") then Date
+    else (if bytes_eq name (codes "timestamp-micros") then TimestampMicros (unwrap_or (option_and_then as_bool (get (codes "adjust-to-utc") d)) false)
+    else (if bytes_eq name (codes "decimal") then decimal (number_at (codes "precision") d) (or_zero (get (codes "scale") d)) else Other name))
 
 abbrev pub logical_by : Option (List ℕ) → Data → Logical
 logical_by None d = Plain
