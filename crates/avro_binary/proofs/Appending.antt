@@ -1,8 +1,8 @@
 -- What writing appends, part by part.
 use Rattle.std.proofs.Common.{◌≡◌, ℕ, zero, suc, ◌+◌, ◌-◌, ◌/◌, ◌%◌, ◌<◌, ◌≤◌, List, [], ◌∷◌, ◌++◌, refl, sym, ap, ◌∙◌, arith, Result}
 use Rattle.std.proofs.lemmas.Bool.{le-ltb}
-use Rattle.plain_types.specs.Appends.{Appends, IsFront}
-use Rattle.plain_types.proofs.CallerLemmas.{appends_more, front_of_more}
+use Rattle.plain_types.specs.Appends.{Appends}
+use Rattle.plain_types.proofs.CallerLemmas.{appends_more}
 use Rattle.avro_binary.specs.Spelling.{groups_up_to}
 
 groups_suc : (more n : ℕ) → 128 ≤ n → groups_up_to (suc more) n ≡ (n % 128 + 128) ∷ groups_up_to more (n / 128)
@@ -19,7 +19,3 @@ pub groups_begin : {E : Type 0} (more n : ℕ) (before mid now : List ℕ) (r : 
     → mid ≡ before ++ (n % 128 + 128) ∷ [] → Appends mid now (groups_up_to (more - 1) (n / 128)) r → Appends before now (groups_up_to more n) r
 groups_begin more n before mid now r some le m a =
     appends_more before ((n % 128 + 128) ∷ []) (groups_up_to (more - 1) (n / 128)) (groups_up_to more n) mid now r m a (groups_step more n some le)
-
--- a call that failed behind what earlier calls wrote leaves what was there before them
-pub front_of_front : {A : Type 0} (old mid new : List A) → IsFront old mid → IsFront mid new → IsFront old new
-front_of_front old mid new (rest, e) f = front_of_more old rest mid new e f
