@@ -55,10 +55,12 @@ pub items_law : {A : Type 0} (reads : List ℕ → A → List ℕ → Type 0) (f
     → ((bytes : List ℕ) → Law bytes (reads bytes) (fails bytes) (reader bytes))
     → (count : ℕ) (bytes : List ℕ) → Law bytes (ReadsItems reads count bytes) (FailsItems reads fails count bytes) (items_at reader count bytes)
 unfolding items_at
-items_law reads fails reader law zero bytes = law_as (ReadsItems reads 0 bytes) (FailsItems reads fails 0 bytes) (law_ok [] bytes) (λ ys rest h. no_items_to reads bytes ys rest h) (λ ys rest h. no_items_only reads bytes ys rest h) (λ f h. absurd h) (λ f h. absurd (let lt : length h.0 < 0 = h.1 in omega arith))
+items_law reads fails reader law zero bytes = law_as (ReadsItems reads 0 bytes) (FailsItems reads fails 0 bytes) (law_ok [] bytes) (λ ys rest h. no_items_to reads bytes ys rest h)
+    (λ ys rest h. no_items_only reads bytes ys rest h) (λ f h. absurd h) (λ f h. absurd (let lt : length h.0 < 0 = h.1 in omega arith))
 items_law reads fails reader law (suc count) bytes =
     law_as (ReadsItems reads (suc count) bytes) (FailsItems reads fails (suc count) bytes)
-    (law_then (λ x after. As (λ xs. x ∷ xs) (ReadsItems reads count after)) (λ x after. FailsItems reads fails count after) (λ first. under (λ xs. first.0 ∷ xs) (items_at reader count first.1)) (law bytes) (λ x after e. law_under (λ xs. x ∷ xs) (items_law reads fails reader law count after)))
+    (law_then (λ x after. As (λ xs. x ∷ xs) (ReadsItems reads count after)) (λ x after. FailsItems reads fails count after) (λ first. under (λ xs. first.0 ∷ xs) (items_at reader count first.1))
+    (law bytes) (λ x after e. law_under (λ xs. x ∷ xs) (items_law reads fails reader law count after)))
     (λ ys rest h. items_to reads count bytes ys rest h) (λ ys rest h. items_back reads count bytes ys rest h) (λ f h. fails_items_to reads fails count bytes f h) (λ f h. fails_items_back reads fails count bytes f h)
 
 -- ---- blocks

@@ -143,7 +143,8 @@ pub fields_goes : (fields : List Field) (front : List Datum) (i : ℕ) (d : Fiel
     → with_front front (fields_at (shapes (map field_shape (drop i fields))) bytes) ≡ total → with_front (front ++ x ∷ []) (fields_at (shapes (map field_shape (drop (i + 1) fields))) after) ≡ total
 unfolding fields_at
 fields_goes fields front i d bytes x after total lt at h so_far =
-    let one : with_front front (fields_at (shapes (map field_shape (drop i fields))) bytes) ≡ with_front (front ++ x ∷ []) (fields_at (shapes (map field_shape (drop (i + 1) fields))) after) = rw (field_next fields i d lt at, h) (regroup front x (fields_at (shapes (map field_shape (drop (i + 1) fields))) after)) in
+    let one : with_front front (fields_at (shapes (map field_shape (drop i fields))) bytes) ≡ with_front (front ++ x ∷ []) (fields_at (shapes (map field_shape (drop (i + 1) fields))) after) = rw
+    (field_next fields i d lt at, h) (regroup front x (fields_at (shapes (map field_shape (drop (i + 1) fields))) after)) in
     sym one ∙ so_far
 
 pub fields_stops : (e : Stop) (fields : List Field) (front : List Datum) (i : ℕ) (d : Field) (bytes : List ℕ)

@@ -58,7 +58,21 @@ fails_behind : (most : ℕ) (whole : List ℕ) (b : ℕ) (bytes : List ℕ) (f :
     → FailsGroups (suc most) whole (b ∷ bytes) f
 fails_behind most whole b bytes f le (inl (e, at)) = inl (record { go_on = (le, e.go_on); few = (let few : length bytes < most = e.few in omega arith) }, at)
 fails_behind most whole b bytes f le (inr (inl p, at)) = inr (inl (record { front = b ∷ p.front; rest = p.rest; parts = ap (λ (t : List ℕ). b ∷ t) p.parts; go_on = (le, p.go_on); long = ap suc p.long }), at)
-fails_behind most whole b bytes f le (inr (inr w, at)) = inr (inr (record { spelling = b ∷ w.spelling; rest = w.rest; number = b % 128 + 128 * w.number; parts = ap (λ (t : List ℕ). b ∷ t) w.parts; few = (let few : length w.spelling ≤ most = w.few in omega arith); is = number_more b w.spelling w.number (b % 128 + 128 * w.number) le refl w.is; wide = (let wide : 2 ^ 64 ≤ w.number = w.wide in omega arith) }), at)
+fails_behind most whole b bytes f le (inr (inr w, at)) = inr (
+  inr
+      (record {
+        spelling = b ∷ w.spelling;
+        rest = w.rest;
+        number = b % 128 + 128 * w.number;
+        parts = ap (λ (t : List ℕ). b ∷ t) w.parts;
+        few =
+            (let few : length w.spelling ≤ most = w.few in omega arith);
+        is = number_more b w.spelling w.number (b % 128 + 128 * w.number) le refl w.is;
+        wide =
+            (let wide : 2 ^ 64 ≤ w.number = w.wide in omega arith);
+      }),
+  at,
+)
 
 groups_fault : (most : ℕ) (whole bytes : List ℕ) (f : Spot) → groups_at most whole bytes ≡ Err f → FailsGroups most whole bytes f
 unfolding groups_at

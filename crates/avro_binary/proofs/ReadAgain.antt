@@ -1,6 +1,7 @@
 -- A schema that was read is read again from its JSON, where named types stand again too: the writer begins the names that the
 -- reader began, and a name stands again only where the reader found the finished type under it.
-use Rattle.std.proofs.Common.{◌≡◌, ℕ, zero, suc, ◌+◌, ◌-◌, ◌*◌, ◌^◌, ◌<◌, ◌≤◌, eqb, ℤ, pos, negsuc, Bool, true, false, not, ◌&&◌, ◌||◌, List, [], ◌∷◌, ◌++◌, length, map, Option, Some, None, Result, Ok, Err, codes, refl, sym, ap, subst, ◌∙◌, arith}
+use Rattle.std.proofs.Common.{◌≡◌, ℕ, zero, suc, ◌+◌, ◌-◌, ◌*◌, ◌^◌, ◌<◌, ◌≤◌, eqb, ℤ, pos, negsuc, Bool, true, false, not, ◌&&◌, ◌||◌, List}
+use Rattle.std.proofs.Common.{[], ◌∷◌, ◌++◌, length, map, Option, Some, None, Result, Ok, Err, codes, refl, sym, ap, subst, ◌∙◌, arith}
 use Rattle.std.specs.Prelude.{if◌then◌else◌, option_and_then, unwrap_or, is_some, nat_le}
 use Rattle.std.specs.List.{list_all}
 use Rattle.std.specs.Ordering.{nat_cmp, match_ordering}
@@ -30,13 +31,15 @@ use Rattle.avro_binary.specs.declared.word.Word.TheVariants as word
 use Rattle.avro_binary.specs.Word.{word_of}
 use Rattle.avro_binary.specs.Naming.{dot_from, last_dot, space_of, full_name, find, has_begun}
 use Rattle.avro_binary.specs.Placed.{Placing, place_each, placed, placed_field}
-use Rattle.avro_binary.specs.SchemaText.{needed, node, text_at, number_at, narrow, id_at, decimal, logical_named, logical_by, logical_of, is_map, type_name, defined_name, used, begin, finish, Nodes, each, symbol, field, record_node, enum_node, fixed_node, array_node, map_node, union_node, if_placed, referred, name_node, typed, single, schema_at, start, schema_of, json_of, schema_in, schema_from}
+use Rattle.avro_binary.specs.SchemaText.{needed, node, text_at, number_at, narrow, id_at, decimal, logical_named, logical_by, logical_of, is_map, type_name, defined_name, used, begin, finish, Nodes, each, symbol, field}
+use Rattle.avro_binary.specs.SchemaText.{record_node, enum_node, fixed_node, array_node, map_node, union_node, if_placed, referred, name_node, typed, single, schema_at, start, schema_of, json_of, schema_in, schema_from}
 use Rattle.avro_binary.specs.SchemaData.{Writing, name_data, primitive, write_each, named, record_written, enum_written, fixed_written, written, written_field, data_of, schema_text}
 use Rattle.avro_binary.specs.SchemaOnce.{is_logical, is_id}
 use Rattle.avro_binary.proofs.JsonTexts.{Good, GoodItems, is_text, read_text, ascii_before}
 use Rattle.avro_binary.proofs.ReadTexts.{SmallNumber, Texts, EachTexts, MembersTexts, json_texts}
 use Rattle.avro_binary.proofs.SchemaFloats.{written_roll, written_field_roll}
-use Rattle.avro_binary.proofs.SchemaLaws.{names_of, lossless, same_some, none_some, and_then, level_of, inner_of, placed_roll, placed_field_roll, one_deeper, NodeReads, used_is, single_of, null_read, boolean_read, text_read, int_read, long_read, bytes_read, named_out, finishing, record_read, enum_read, fixed_read, array_data, array_read, map_data, map_read, union_read, field_data, field_read}
+use Rattle.avro_binary.proofs.SchemaLaws.{names_of, lossless, same_some, none_some, and_then, level_of, inner_of, placed_roll, placed_field_roll, one_deeper, NodeReads, used_is, single_of, null_read, boolean_read, text_read}
+use Rattle.avro_binary.proofs.SchemaLaws.{int_read, long_read, bytes_read, named_out, finishing, record_read, enum_read, fixed_read, array_data, array_read, map_data, map_read, union_read, field_data, field_read}
 use Rattle.avro_binary.proofs.SchemaTexts.{space_is_text, primitive_is_good, record_is_good, enum_is_good, fixed_is_good, array_is_good, map_is_good, field_is_good, written_deep}
 
 -- ---- answers

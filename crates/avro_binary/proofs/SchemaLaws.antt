@@ -25,7 +25,8 @@ use Rattle.avro_binary.specs.declared.schema.Logical.TheVariants.{Plain, Date, T
 use Rattle.avro_binary.specs.Word.{word_of}
 use Rattle.avro_binary.specs.Naming.{space_of, last_dot, full_name, has_begun}
 use Rattle.avro_binary.specs.Placed.{Placing, place_each, place_inner, place_level, place_field, placed, placed_field}
-use Rattle.avro_binary.specs.SchemaText.{needed, node, text_at, narrow, id_at, decimal, logical_named, logical_of, is_map, type_name, defined_name, used, begin, finish, Nodes, Reader, each, symbol, field, record_node, enum_node, fixed_node, array_node, map_node, union_node, typed, single, schema_at, schema_of}
+use Rattle.avro_binary.specs.SchemaText.{needed, node, text_at, narrow, id_at, decimal, logical_named, logical_of, is_map, type_name, defined_name, used, begin, finish, Nodes}
+use Rattle.avro_binary.specs.SchemaText.{Reader, each, symbol, field, record_node, enum_node, fixed_node, array_node, map_node, union_node, typed, single, schema_at, schema_of}
 use Rattle.avro_binary.specs.SchemaData.{Writing, name_data, type_key, with_id, with_logical, with_map, named_keys, primitive, symbols, write_each, named, record_written, enum_written, fixed_written, written_level, field_level, written, written_field, data_of}
 use Rattle.avro_binary.specs.SchemaOnce.{is_logical, is_id, Begins, when, no_name, one_name, each_once, once_level, once_field_level, once, once_field, has_text}
 use Rattle.avro_binary.proofs.Loops.{ne-eqb}

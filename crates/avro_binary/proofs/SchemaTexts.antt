@@ -1,5 +1,6 @@
 -- The text of a schema is read as the schema.
-use Rattle.std.proofs.Common.{◌≡◌, ◌⊎◌, ℕ, zero, suc, max, ◌+◌, ◌-◌, ◌*◌, ◌^◌, ◌<◌, ◌≤◌, eqb, ℤ, pos, negsuc, Bool, true, false, ◌&&◌, List, [], ◌∷◌, ◌++◌, length, map, take, get_or, Option, Some, None, Ok, codes, refl, sym, ap, subst, ◌∙◌, inl, inr, append_assoc, arith}
+use Rattle.std.proofs.Common.{◌≡◌, ◌⊎◌, ℕ, zero, suc, max, ◌+◌, ◌-◌, ◌*◌, ◌^◌, ◌<◌, ◌≤◌, eqb, ℤ, pos, negsuc, Bool, true, false, ◌&&◌, List, [], ◌∷◌}
+use Rattle.std.proofs.Common.{◌++◌, length, map, take, get_or, Option, Some, None, Ok, codes, refl, sym, ap, subst, ◌∙◌, inl, inr, append_assoc, arith}
 use Rattle.std.specs.Prelude.{if◌then◌else◌, option_and_then, unwrap_or, is_some, nat_le, nat_lt}
 use Rattle.std.specs.List.{list_all}
 use Rattle.std.specs.Str.{is_utf8, IsUtf8}
@@ -435,16 +436,25 @@ deep_levels (open_schema.Record name es) =
     let fields : List Field = map (λ (e : ProvedField DeepField). e.0) es in
     deep_level (open_schema.Record name fields) _ (written_roll (open_schema.Record name fields)) (record_deep name es)
 deep_levels (open_schema.Enum name ns) = deep_level (open_schema.Enum name ns) _ (written_roll (open_schema.Enum name ns))
-    (λ d b l left placing. named_deep name (enum_written name ns) b (3 * d + 3) (λ c. object_deep (put (codes "symbols") (symbols ns) (named_keys (codes "enum") name)) d 1 (put_deep (codes "symbols") (symbols ns) (named_keys (codes "enum") name) 1 (one_more (items_depth (items_of (map name_data ns))) 0 (symbols_flat ns)) (keys_flat (codes "enum") name 1)) (omega arith)))
+    (λ d b l left placing. named_deep name (enum_written name ns) b (3 * d + 3)
+    (λ c. object_deep (put (codes "symbols") (symbols ns) (named_keys (codes "enum") name)) d 1
+    (put_deep (codes "symbols") (symbols ns) (named_keys (codes "enum") name) 1 (one_more (items_depth (items_of (map name_data ns))) 0 (symbols_flat ns)) (keys_flat (codes "enum") name 1))
+    (omega arith)))
 deep_levels (open_schema.Array e element map) = deep_level (open_schema.Array e.0 element map) _ (written_roll (open_schema.Array e.0 element map))
-    (λ d b l left placing. object_deep (array_keys (written e.0 b).0 element map) d (3 * d) (map_deep map _ (3 * d) (id_deep (codes "element-id") element _ (3 * d) (put_deep (codes "items") (written e.0 b).0 (type_key (codes "array")) (3 * d) (e.1 d b l left placing) (type_flat (codes "array") (3 * d))))) (omega arith))
+    (λ d b l left placing. object_deep (array_keys (written e.0 b).0 element map) d (3 * d)
+    (map_deep map _ (3 * d) (id_deep (codes "element-id") element _ (3 * d)
+    (put_deep (codes "items") (written e.0 b).0 (type_key (codes "array")) (3 * d) (e.1 d b l left placing) (type_flat (codes "array") (3 * d))))) (omega arith))
 deep_levels (open_schema.Map e key value) = deep_level (open_schema.Map e.0 key value) _ (written_roll (open_schema.Map e.0 key value))
-    (λ d b l left placing. object_deep (map_keys (written e.0 b).0 key value) d (3 * d) (id_deep (codes "value-id") value _ (3 * d) (id_deep (codes "key-id") key _ (3 * d) (put_deep (codes "values") (written e.0 b).0 (type_key (codes "map")) (3 * d) (e.1 d b l left placing) (type_flat (codes "map") (3 * d))))) (omega arith))
+    (λ d b l left placing. object_deep (map_keys (written e.0 b).0 key value) d (3 * d)
+    (id_deep (codes "value-id") value _ (3 * d) (id_deep (codes "key-id") key _ (3 * d)
+    (put_deep (codes "values") (written e.0 b).0 (type_key (codes "map")) (3 * d) (e.1 d b l left placing) (type_flat (codes "map") (3 * d))))) (omega arith))
 deep_levels (open_schema.Union es) =
     let branches : List Schema = map (λ (e : Proved Deep). e.0) es in
     deep_level (open_schema.Union branches) _ (written_roll (open_schema.Union branches)) (λ d b l left placing. array_deep (items_of (write_each (map written branches) b).0) d (each_deep written placed Deep d (3 * d) (λ x q c m r h. q d c m r h) es b l left placing))
 deep_levels (open_schema.Fixed name size logical) = deep_level (open_schema.Fixed name size logical) _ (written_roll (open_schema.Fixed name size logical))
-    (λ d b l left placing. named_deep name (fixed_written name size logical) b (3 * d + 3) (λ c. object_deep (fixed_keys name size logical) d 0 (logical_deep logical _ 0 (flat (codes "size") (number (unsigned size)) (named_keys (codes "fixed") name) 0 refl (keys_flat (codes "fixed") name 0))) (omega arith)))
+    (λ d b l left placing. named_deep name (fixed_written name size logical) b (3 * d + 3)
+    (λ c. object_deep (fixed_keys name size logical) d 0 (logical_deep logical _ 0
+    (flat (codes "size") (number (unsigned size)) (named_keys (codes "fixed") name) 0 refl (keys_flat (codes "fixed") name 0))) (omega arith)))
 
 deep_fields : (y : open_schema.Field-F (Proved Deep) (ProvedField DeepField))
     → DeepField (roll-Field (map-Field (Proved Deep) (ProvedField DeepField) Schema Field (λ e. e.0) (λ e. e.0) y))

@@ -1,13 +1,13 @@
 -- The schema of a JSON text (Avro 1.11.1, 'Schema Declaration', 'Names' and 'Logical Types'), with its first fault: each node
 -- before those inside it, and the fields, branches and symbols in order.
-use Rattle.std.specs.Prelude.{◌≡◌, ◌≢◌, ℕ, zero, suc, ◌-◌, ◌^◌, ℤ, pos, negsuc, Bool, false, List, [], ◌∷◌, ◌++◌, Option, Some, None, Result, Ok, Err, option_and_then, unwrap_or, codes, nat_le, ◌&&◌, ◌==◌, if◌then◌else◌}
+use Rattle.std.specs.Prelude.{ℕ, zero, suc, ◌-◌, ◌^◌, ℤ, pos, negsuc, Bool, false, List, [], ◌∷◌, ◌++◌, Option, Some, None, Result, Ok, Err, option_and_then, unwrap_or, codes, nat_le, ◌&&◌, ◌==◌, if◌then◌else◌}
 use Rattle.std.specs.Str.{bytes_eq, is_utf8}
 use Rattle.serde_json.specs.Data.{Data, Items, no_items, item}
 use Rattle.serde_json.specs.Find.{get, as_str, as_array, as_bool, as_number, as_u64, as_i64}
 use Rattle.serde_json.specs.Read.{read}
 use Rattle.plain_types.specs.Steps.{◌>>=◌}
 use Rattle.avro_binary.specs.declared.schema_fault.SchemaFault.{SchemaFault}
-use Rattle.avro_binary.specs.declared.schema_fault.SchemaFault.TheVariants.{Json, TypeName, Shape, Depth, Memory}
+use Rattle.avro_binary.specs.declared.schema_fault.SchemaFault.TheVariants.{Json, TypeName, Shape, Depth}
 use Rattle.avro_binary.specs.declared.names.Names.{Names}
 use Rattle.avro_binary.specs.declared.schema.Schema.{Schema}
 use Rattle.avro_binary.specs.declared.schema.Schema.TheVariants as schema
@@ -52,7 +52,9 @@ or_zero None = Some 0
 or_zero (Some d) = option_and_then as_u64 (as_number d)
 
 unfoldable pub logical_named : List ℕ → Data → Logical
-logical_named name d = if bytes_eq name (codes "date") then Date else (if bytes_eq name (codes "timestamp-micros") then TimestampMicros (unwrap_or (option_and_then as_bool (get (codes "adjust-to-utc") d)) false) else (if bytes_eq name (codes "decimal") then decimal (number_at (codes "precision") d) (or_zero (get (codes "scale") d)) else Other name))
+logical_named name d = if bytes_eq name (codes "date") then Date
+    else (if bytes_eq name (codes "timestamp-micros") then TimestampMicros (unwrap_or (option_and_then as_bool (get (codes "adjust-to-utc") d)) false)
+    else (if bytes_eq name (codes "decimal") then decimal (number_at (codes "precision") d) (or_zero (get (codes "scale") d)) else Other name))
 
 abbrev pub logical_by : Option (List ℕ) → Data → Logical
 logical_by None d = Plain

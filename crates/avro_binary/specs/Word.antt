@@ -8,4 +8,10 @@ abbrev pub complex_word : List ℕ → words.Word
 complex_word name = if bytes_eq name (codes "record") then Record else (if bytes_eq name (codes "enum") then Enum else (if bytes_eq name (codes "array") then Array else (if bytes_eq name (codes "map") then Map else (if bytes_eq name (codes "fixed") then Fixed else Name))))
 
 abbrev pub word_of : List ℕ → words.Word
-word_of name = if bytes_eq name (codes "null") then Null else (if bytes_eq name (codes "boolean") then Boolean else (if bytes_eq name (codes "int") then Int else (if bytes_eq name (codes "long") then Long else (if bytes_eq name (codes "bytes") then Bytes else (if bytes_eq name (codes "string") then Text else complex_word name)))))
+word_of name = if bytes_eq name (codes "null") then Null
+    else (if bytes_eq name (codes "boolean") then Boolean
+    else (if bytes_eq name (codes "int") then Int
+    else (if bytes_eq name (codes "long") then Long
+    else (if bytes_eq name (codes "bytes") then Bytes
+    else (if bytes_eq name (codes "string") then Text
+    else complex_word name)))))

@@ -1,6 +1,7 @@
 //! Datums of every type, written at the end of bytes.
 
-ghost use Rattle.std.specs.Prelude.{◌≡◌, ◌++◌, ◌*◌, ◌^◌, ◌<◌, ◌∷◌, [], OnOk, length, map};
+ghost use Rattle.plain_types.specs.Appends.{Appends};
+ghost use Rattle.std.specs.Prelude.{◌++◌, map};
 ghost use Rattle.std.specs.List.{concat};
 ghost use Rattle.avro_binary.specs.Spelling.{natural, block, spelling, pair_spelling};
 
@@ -10,7 +11,7 @@ use std::alloc::AllocError;
 
 #[cycle(writing)]
 pub fn put_datum(datum: &Datum, out: &mut Vec<u8>) -> Result<(), AllocError>
-    ensures { OnOk result (out.new.items ≡ out.old.items ++ spelling datum.now) }
+    ensures { Appends out.old.items out.new.items (spelling datum.now) result }
 {
     match datum {
         Datum::Null => Ok(()),
@@ -31,7 +32,7 @@ pub fn put_datum(datum: &Datum, out: &mut Vec<u8>) -> Result<(), AllocError>
 /// One datum after the other.
 #[cycle(writing)]
 pub fn put_each(values: &[Datum], out: &mut Vec<u8>) -> Result<(), AllocError>
-    ensures { OnOk result (out.new.items ≡ out.old.items ++ concat (map spelling values.now)) }
+    ensures { Appends out.old.items out.new.items (concat (map spelling values.now)) result }
 {
     for value in values {
         put_datum(value, out)?;
@@ -41,7 +42,7 @@ pub fn put_each(values: &[Datum], out: &mut Vec<u8>) -> Result<(), AllocError>
 
 #[cycle(writing)]
 fn put_branch(branch: u32, value: &Datum, out: &mut Vec<u8>) -> Result<(), AllocError>
-    ensures { OnOk result (out.new.items ≡ out.old.items ++ natural branch ++ spelling value.now) }
+    ensures { Appends out.old.items out.new.items (natural branch ++ spelling value.now) result }
 {
     put_natural(u64::from(branch), out)?;
     put_datum(value, out)?;
@@ -50,7 +51,7 @@ fn put_branch(branch: u32, value: &Datum, out: &mut Vec<u8>) -> Result<(), Alloc
 
 #[cycle(writing)]
 fn put_items(items: &[Datum], out: &mut Vec<u8>) -> Result<(), AllocError>
-    ensures { OnOk result (out.new.items ≡ out.old.items ++ block (map spelling items.now)) }
+    ensures { Appends out.old.items out.new.items (block (map spelling items.now)) result }
 {
     if !items.is_empty() {
         put_natural(items.len() as u64, out)?;
@@ -62,7 +63,7 @@ fn put_items(items: &[Datum], out: &mut Vec<u8>) -> Result<(), AllocError>
 
 #[cycle(writing)]
 fn put_pairs(pairs: &[MapPair], out: &mut Vec<u8>) -> Result<(), AllocError>
-    ensures { OnOk result (out.new.items ≡ out.old.items ++ block (map pair_spelling pairs.now)) }
+    ensures { Appends out.old.items out.new.items (block (map pair_spelling pairs.now)) result }
 {
     if !pairs.is_empty() {
         put_natural(pairs.len() as u64, out)?;
@@ -74,7 +75,7 @@ fn put_pairs(pairs: &[MapPair], out: &mut Vec<u8>) -> Result<(), AllocError>
 
 #[cycle(writing)]
 fn put_each_pair(pairs: &[MapPair], out: &mut Vec<u8>) -> Result<(), AllocError>
-    ensures { OnOk result (out.new.items ≡ out.old.items ++ concat (map pair_spelling pairs.now)) }
+    ensures { Appends out.old.items out.new.items (concat (map pair_spelling pairs.now)) result }
 {
     for pair in pairs {
         put_pair(pair, out)?;
@@ -84,7 +85,7 @@ fn put_each_pair(pairs: &[MapPair], out: &mut Vec<u8>) -> Result<(), AllocError>
 
 #[cycle(writing)]
 fn put_pair(pair: &MapPair, out: &mut Vec<u8>) -> Result<(), AllocError>
-    ensures { OnOk result (out.new.items ≡ out.old.items ++ pair_spelling pair.now) }
+    ensures { Appends out.old.items out.new.items (pair_spelling pair.now) result }
 {
     put_counted(pair.key.as_slice(), out)?;
     put_datum(&pair.value, out)?;
