@@ -30,7 +30,8 @@ FailsPair bytes = FailsThen (FailsText bytes) (ReadsText bytes) (λ key after. F
 
 meta_law : (bytes : List ℕ) → laws.Law bytes (ReadsMetaPair bytes) (FailsPair bytes) (meta_at bytes)
 unfolding meta_at
-meta_law bytes = laws.law_then (λ key after. As (λ value. meta_pair key value) (ReadsBytes after)) (λ key after. FailsBytes after) (λ key. reading.under (λ value. meta_pair key.0 value) (bytes_at key.1)) (text_law bytes) (λ key after e. laws.law_under (λ value. meta_pair key value) (bytes_law after))
+meta_law bytes = laws.law_then (λ key after. As (λ value. meta_pair key value) (ReadsBytes after)) (λ key after. FailsBytes after)
+    (λ key. reading.under (λ value. meta_pair key.0 value) (bytes_at key.1)) (text_law bytes) (λ key after e. laws.law_under (λ value. meta_pair key value) (bytes_law after))
 
 -- ---- one pair
 

@@ -1,23 +1,24 @@
 //! Containers, written at the end of bytes.
 
-ghost use Rattle.std.specs.Prelude.{◌≡◌, ◌++◌, ◌∷◌, ◌+◌, ◌<◌, ◌^◌, [], OnOk, IfOk, length, map, take, drop, codes};
+ghost use Rattle.plain_types.specs.Appends.{Appends};
+ghost use Rattle.std.specs.Prelude.{◌≡◌, ◌++◌, ◌∷◌, ◌<◌, [], IfOk, map, take, drop, codes};
 ghost use Rattle.std.specs.List.{concat};
 ghost use Rattle.avro_binary.specs.Spelling.{natural, counted, block, spelling};
 ghost use Rattle.avro_container.specs.Header.{magic};
-ghost use Rattle.avro_container.specs.ContainerText.{sync, pair_text, schema_pair, codec_pair, header_text, block_text, blocks_text, pieces};
+ghost use Rattle.avro_container.specs.ContainerText.{sync, pair_text, codec_pair, header_text, block_text, blocks_text};
 
 use crate::pairs::MetaPair;
 use avro_binary::{Datum, Schema, put_bytes, put_counted, put_each, put_natural, write_schema};
 use std::alloc::{AllocError, Global};
 
 fn put_sync(out: &mut Vec<u8>) -> Result<(), AllocError>
-    ensures { OnOk result (out.new.items ≡ out.old.items ++ sync) }
+    ensures { Appends out.old.items out.new.items sync result }
 {
     put_bytes(b"iceberg-dml-sync", out)
 }
 
 fn put_pair(key: &[u8], value: &[u8], out: &mut Vec<u8>) -> Result<(), AllocError>
-    ensures { OnOk result (out.new.items ≡ out.old.items ++ pair_text (record { key = key.now; value = value.now })) }
+    ensures { Appends out.old.items out.new.items (pair_text (record { key = key.now; value = value.now })) result }
 {
     put_counted(key, out)?;
     put_counted(value, out)?;
@@ -25,7 +26,7 @@ fn put_pair(key: &[u8], value: &[u8], out: &mut Vec<u8>) -> Result<(), AllocErro
 }
 
 fn put_pairs(pairs: &[MetaPair], out: &mut Vec<u8>) -> Result<(), AllocError>
-    ensures { OnOk result (out.new.items ≡ out.old.items ++ concat (map pair_text pairs.now)) }
+    ensures { Appends out.old.items out.new.items (concat (map pair_text pairs.now)) result }
 {
     for pair in pairs {
         put_pair(pair.key.as_bytes(), pair.value.as_slice(), out)?;
@@ -34,7 +35,7 @@ fn put_pairs(pairs: &[MetaPair], out: &mut Vec<u8>) -> Result<(), AllocError>
 }
 
 fn put_own_pairs(schema: &[u8], out: &mut Vec<u8>) -> Result<(), AllocError>
-    ensures { OnOk result (out.new.items ≡ out.old.items ++ concat (map pair_text (record { key = codes "avro.schema"; value = schema.now } ∷ codec_pair ∷ []))) }
+    ensures { Appends out.old.items out.new.items (concat (map pair_text (record { key = codes "avro.schema"; value = schema.now } ∷ codec_pair ∷ []))) result }
 {
     put_pair(b"avro.schema", schema, out)?;
     put_pair(b"avro.codec", b"null", out)?;
@@ -42,7 +43,7 @@ fn put_own_pairs(schema: &[u8], out: &mut Vec<u8>) -> Result<(), AllocError>
 }
 
 fn put_metadata(schema: &[u8], meta: &[MetaPair], out: &mut Vec<u8>) -> Result<(), AllocError>
-    ensures { OnOk result (out.new.items ≡ out.old.items ++ block (map pair_text (record { key = codes "avro.schema"; value = schema.now } ∷ codec_pair ∷ meta.now))) }
+    ensures { Appends out.old.items out.new.items (block (map pair_text (record { key = codes "avro.schema"; value = schema.now } ∷ codec_pair ∷ meta.now))) result }
 {
     put_natural(meta.len() as u64 + 2, out)?;
     put_own_pairs(schema, out)?;
@@ -52,7 +53,7 @@ fn put_metadata(schema: &[u8], meta: &[MetaPair], out: &mut Vec<u8>) -> Result<(
 }
 
 fn put_header(schema: &[u8], meta: &[MetaPair], out: &mut Vec<u8>) -> Result<(), AllocError>
-    ensures { OnOk result (out.new.items ≡ out.old.items ++ (magic ++ block (map pair_text (record { key = codes "avro.schema"; value = schema.now } ∷ codec_pair ∷ meta.now)) ++ sync)) }
+    ensures { Appends out.old.items out.new.items (magic ++ block (map pair_text (record { key = codes "avro.schema"; value = schema.now } ∷ codec_pair ∷ meta.now)) ++ sync) result }
 {
     put_bytes(b"Obj\x01", out)?;
     put_metadata(schema, meta, out)?;
@@ -61,7 +62,7 @@ fn put_header(schema: &[u8], meta: &[MetaPair], out: &mut Vec<u8>) -> Result<(),
 }
 
 fn put_block(alloc: Global, datums: &[Datum], out: &mut Vec<u8>) -> Result<(), AllocError>
-    ensures { OnOk result (out.new.items ≡ out.old.items ++ block_text datums.now) }
+    ensures { Appends out.old.items out.new.items (block_text datums.now) result }
 {
     let mut stored = Vec::new(alloc);
     put_each(datums, &mut stored)?;
@@ -91,7 +92,7 @@ pub fn put_blocks(
     out: &mut Vec<u8>,
 ) -> Result<(), AllocError>
     requires { 0 < limit }
-    ensures { OnOk result (out.new.items ≡ out.old.items ++ blocks_text limit datums.now) }
+    ensures { Appends out.old.items out.new.items (blocks_text limit datums.now) result }
 {
     let mut rest = datums;
     while !rest.is_empty() {
