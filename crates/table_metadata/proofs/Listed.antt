@@ -7,6 +7,7 @@ use Rattle.serde_json.specs.Data.{Data, Items, no_items, item}
 use Rattle.plain_types.specs.Steps.{by_option, fault_as, fault_if, or_fault}
 use Rattle.row_values.specs.declared.schema.Column.{Column}
 use Rattle.row_values.specs.declared.schema.TableSchema.{TableSchema}
+use Rattle.row_values.specs.declared.partition.PartField.{PartField}
 use Rattle.row_values.specs.declared.partition.Spec.{Spec}
 use Rattle.table_metadata.specs.declared.metadata_fault.MetadataFault.TheVariants as metadata
 use Rattle.iceberg_schema.specs.declared.schema_fault.SchemaJsonFault.TheVariants as schema_fault
@@ -19,12 +20,14 @@ use Rattle.iceberg_schema.specs.SchemaJson.{column_of, columns_of, has_name, is_
 use Rattle.table_metadata.specs.SchemaList.{columns_with, schemas_from, schemas_of, specs_from, specs_of}
 use Rattle.table_metadata.specs.Snapshots.{operation_of, optional_int, optional_long, snapshot_of, snapshots_from, snapshots_of}
 use Rattle.iceberg_schema.specs.SoundSchema.{IsSoundSchema}
-use Rattle.iceberg_schema.specs.SpecJson.{fields_of, spec_of}
+use Rattle.iceberg_schema.specs.SpecJson.{field_of, fields_of, has_field, source_fits, spec_of}
+use Rattle.iceberg_schema.specs.TransformText.{transform_of}
 use Rattle.table_metadata.specs.TableKeys.{distinct_items, listed_id, shape_if, shaped}
 use Rattle.plain_types.proofs.CallerLemmas.{one_value, two_steps}
-use Rattle.iceberg_schema.proofs.CallerLemmas.{sound_schema, untested}
+use Rattle.iceberg_schema.proofs.CallerLemmas.{sound_schema, sound_spec, untested}
 use Rattle.table_metadata.specs.ById.{schema_with, spec_with}
 use Rattle.iceberg_schema.specs.Widths.{IsInt, IsLong}
+use Rattle.table_metadata.specs.Sound.{IsReadSpec}
 use Rattle.table_metadata.proofs.Numbers.{AreRead, IsRead, items_are, long_is}
 
 pub all_pushed : {X : Type 0} (P : X → Type 0) (xs : List X) (x : X) → AllByRecursion P xs → P x → AllByRecursion P (xs ++ x ∷ [])
@@ -128,6 +131,73 @@ spec_read columns d s h =
     let s3 = two_steps (fault_if (spec_fault.Fields n) (nat_lt 16 n)) _ s s2.2 in
     let s4 = two_steps (fields_of columns [] s2.0) _ s s3.2 in
     subst (λ (x : Spec). int_at (codes "spec-id") d ≡ Some x.id) (one_value _ s _ refl s4.2) (there (spec_fault.Missing (codes "spec-id")) (int_at (codes "spec-id") d) s1.0 s1.1)
+
+abbrev HasIntField : PartField → Type 0
+HasIntField field = IsInt field.field
+
+field_has : (columns : List Column) (earlier : List PartField) (d : Data) (f : PartField) → field_of columns earlier d ≡ Ok f → HasIntField f
+unfolding field_of
+field_has columns earlier d f h =
+    let s1 = two_steps (or_fault (spec_fault.Missing (codes "source-id")) (int_at (codes "source-id") d)) _ f h in
+    let s2 = two_steps (or_fault (spec_fault.Missing (codes "field-id")) (int_at (codes "field-id") d)) _ f s1.2 in
+    let s3 = two_steps (or_fault (spec_fault.Missing (codes "name")) (text_at (codes "name") d)) _ f s2.2 in
+    let s4 = two_steps (or_fault (spec_fault.Missing (codes "transform")) (text_at (codes "transform") d)) _ f s3.2 in
+    let s5 = two_steps (fault_as spec_fault.Transform (transform_of s4.0)) _ f s4.2 in
+    let s6 = two_steps (source_fits s5.0 s1.0 columns) _ f s5.2 in
+    let s7 = two_steps (fault_if (spec_fault.Duplicate s2.0) (has_field s2.0 earlier)) _ f s6.2 in
+    subst HasIntField (one_value _ f _ refl s7.2) (int_is (codes "field-id") d s2.0 (there (spec_fault.Missing (codes "field-id")) (int_at (codes "field-id") d) s2.0 s2.1)).0
+
+fields_have : (columns : List Column) (ds : Items) (earlier fs : List PartField) → fields_of columns earlier ds ≡ Ok fs
+    → AllByRecursion HasIntField earlier → AllByRecursion HasIntField fs
+unfolding fields_of
+fields_have columns no_items earlier fs h all = subst (AllByRecursion HasIntField) (one_value earlier fs _ refl h) all
+fields_have columns (item d ds) earlier fs h all =
+    let s = two_steps (field_of columns earlier d) _ fs h in
+    fields_have columns ds (earlier ++ s.0 ∷ []) fs s.2 (all_pushed HasIntField earlier s.0 all (field_has columns earlier d s.0 s.1))
+
+spec_is_read : (columns : List Column) (d : Data) (s : Spec) → spec_of columns d ≡ Ok s → IsReadSpec columns s
+unfolding spec_of
+spec_is_read columns d s h =
+    let s1 = two_steps (or_fault (spec_fault.Missing (codes "spec-id")) (int_at (codes "spec-id") d)) _ s h in
+    let s2 = two_steps (or_fault (spec_fault.Missing (codes "fields")) (items_at (codes "fields") d)) _ s s1.2 in
+    let n = item_count s2.0 in
+    let s3 = two_steps (fault_if (spec_fault.Fields n) (nat_lt 16 n)) _ s s2.2 in
+    let s4 = two_steps (fields_of columns [] s2.0) _ s s3.2 in
+    (sound_spec columns d s h, subst (λ (x : Spec). AllByRecursion HasIntField x.fields) (one_value _ s _ refl s4.2) (fields_have columns s2.0 [] s4.0 s4.1 tt))
+
+specs_read_from : (columns : List Column) (ds : Items) (earlier specs : List Spec) → specs_from columns earlier ds ≡ Ok specs
+    → AllByRecursion (IsReadSpec columns) earlier → AllByRecursion (IsReadSpec columns) specs
+unfolding specs_from
+specs_read_from columns no_items earlier specs h all = subst (AllByRecursion (IsReadSpec columns)) (one_value earlier specs _ refl h) all
+specs_read_from columns (item d ds) earlier specs h all =
+    let s = two_steps (fault_as metadata.Spec (spec_of columns d)) _ specs h in
+    specs_read_from columns ds (earlier ++ s.0 ∷ []) specs s.2
+    (all_pushed (IsReadSpec columns) earlier s.0 all (spec_is_read columns d s.0 (unfault metadata.Spec (spec_of columns d) s.0 s.1)))
+
+columns_found : (id : ℤ) (schemas : List TableSchema) (s : TableSchema) → schema_with id schemas ≡ Some s → columns_with id schemas ≡ Some s.columns
+unfolding columns_with schema_with
+columns_found id [] s h = absurd cc
+columns_found id (schema ∷ schemas) s h = found_by (int_eq schema.id id) h (columns_found id schemas s)
+  where
+    found_by : (b : Bool) → (if b then Some schema else schema_with id schemas) ≡ Some s
+        → (schema_with id schemas ≡ Some s → columns_with id schemas ≡ Some s.columns)
+        → (if b then Some schema.columns else columns_with id schemas) ≡ Some s.columns
+    found_by true k others = cc
+    found_by false k others = others k
+
+same_columns : (o : Option (List Column)) (a b : List Column) → o ≡ Some a → o ≡ Some b → a ≡ b
+same_columns o a b h k = cc
+
+-- each spec is read over the columns of the current schema
+pub specs_read : (current : ℤ) (schemas : List TableSchema) (d : Data) (specs : List Spec) (s : TableSchema)
+    → specs_of current schemas d ≡ Ok specs → schema_with current schemas ≡ Some s → AllByRecursion (IsReadSpec s.columns) specs
+unfolding specs_of
+specs_read current schemas d specs s h stands =
+    let s1 = two_steps (shaped (codes "current-schema-id") (columns_with current schemas)) _ specs h in
+    let s2 = two_steps (shaped (codes "partition-specs") (items_at (codes "partition-specs") d)) _ specs s1.2 in
+    let found = there (metadata.Shape (codes "current-schema-id")) (columns_with current schemas) s1.0 s1.1 in
+    let same = same_columns (columns_with current schemas) s1.0 s.columns found (columns_found current schemas s stands) in
+    subst (λ (columns : List Column). AllByRecursion (IsReadSpec columns) specs) same (specs_read_from s1.0 s2.0 [] specs s2.2 tt)
 
 module _ (id : ℤ) where
   kept_in_front : (specs more : List Spec) → IsSome (spec_with id specs) → IsSome (spec_with id (specs ++ more))

@@ -11,7 +11,7 @@ use Rattle.plain_types.proofs.CallerLemmas.{one_value, two_steps}
 use Rattle.table_metadata.proofs.PartsRead.{readings_of}
 use Rattle.iceberg_schema.specs.Widths.{IsInt, IsLong}
 use Rattle.table_metadata.specs.Sound.{IsSoundMetadata}
-use Rattle.table_metadata.proofs.Listed.{distinct_are, listed_is, schema_found, schemas_read, snapshots_have, spec_found, there}
+use Rattle.table_metadata.proofs.Listed.{distinct_are, listed_is, schema_found, schemas_read, snapshots_have, spec_found, specs_read, there}
 use Rattle.table_metadata.proofs.Numbers.{IsRead, json_is_read, long_is}
 
 own_number : {K E : Type 0} (a b : K) (r : Result K E) → r ≡ Ok a → r ≡ Ok b → (number : K → ℤ) → number a ≡ number b
@@ -70,6 +70,7 @@ sound_parts d p read h =
       schema = found.0;
       current = record { stands = found.1; sound = found.2.0; ids = found.2.1 };
       spec = spec_found p.default_spec p.current_schema p.schemas d ids.items p.specs ids.listed ids.has r.specs;
+      specs = specs_read p.current_schema p.schemas d p.specs found.0 r.specs found.1;
       sequence = keys.0;
       updated = keys.1;
       schema_id = ids.number;
