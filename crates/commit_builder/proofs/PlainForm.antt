@@ -103,7 +103,7 @@ has_range : {X : Type 0} (b : Bool) (x : X) → b ≡ true → is_some (if b the
 has_range true x h = refl
 has_range false x h = absurd cc
 
-int_is_id : (n : ℤ) → IsInt n → is_id (Some n) ≡ true
+pub int_is_id : (n : ℤ) → IsInt n → is_id (Some n) ≡ true
 int_is_id (pos n) h =
     let below : int_le (pos n) (pos (2 ^ 31 - 1)) ≡ true = second (int_le (neg_ℤ (pos (2 ^ 31))) (pos n)) (int_le (pos n) (pos (2 ^ 31 - 1))) (bounded (pos n) h) in
     let least : nat_le n (2 ^ 31 - 1) ≡ true = grind (arith, ints, nat_tests, below) in

@@ -74,7 +74,7 @@ pub record HasNumbers (head : State) (now : ℤ) : Type 0 where
 pub record CanBeRewritten (head : State) : Type 0 where
   pub schema : schema_with head.metadata.current_schema head.metadata.schemas ≡ Some (schema_of head)
   pub kinds : IsTrue (list_all (λ column. is_kind column.kind) (schema_of head).columns)
-  pub specs : (id : ℤ) (spec : Spec) → spec_with id head.metadata.specs ≡ Some spec → IsWritableSpec spec (schema_of head)
+  pub specs : (id : ℤ) (spec : Spec) → spec_with id head.metadata.specs ≡ Some spec → IsWritableSpec spec
 
 -- a file that can be added: its entry is of a spec of the table, and a manifest can hold it
 pub record CanBeAdded (head : State) (entry : Entry) : Type 0 where
