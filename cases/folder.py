@@ -68,7 +68,7 @@ def rows_of(program, folder):
     report, status = ended(start([program, *ROWS_ASKED], folder))
     if status != 0:
         raise ValueError("the rows have status %s: %r" % (status, report[-200:]))
-    return [line[4:] for line in report.splitlines()]
+    return [line[4:] for line in report.split(b"\n")[:-1]]
 
 
 def script(folder, name, session, *statements):
