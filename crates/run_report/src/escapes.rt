@@ -1,11 +1,11 @@
-ghost use Rattle.std.specs.Prelude.{◌≡◌, ◌++◌, OnOk};
+ghost use Rattle.plain_types.specs.Appends.{Appends};
 ghost use Rattle.run_report.specs.Escapes.{escaped, escaped_byte};
 
 use std::alloc::AllocError;
 
 /// Appends the text, in which a line feed is written as the two characters `\n`.
 pub fn push_escaped(bytes: &mut Vec<u8>, text: &[u8]) -> Result<(), AllocError>
-    ensures { OnOk result (bytes.new.items ≡ bytes.old.items ++ escaped text.now) }
+    ensures { Appends bytes.old.items bytes.new.items (escaped text.now) result }
 {
     for byte in text {
         push_byte(bytes, *byte)?;
@@ -14,7 +14,7 @@ pub fn push_escaped(bytes: &mut Vec<u8>, text: &[u8]) -> Result<(), AllocError>
 }
 
 fn push_byte(bytes: &mut Vec<u8>, byte: u8) -> Result<(), AllocError>
-    ensures { OnOk result (bytes.new.items ≡ bytes.old.items ++ escaped_byte byte) }
+    ensures { Appends bytes.old.items bytes.new.items (escaped_byte byte) result }
 {
     if byte == b'\n' {
         bytes.extend_from_slice(b"\\n")

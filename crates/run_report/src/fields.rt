@@ -1,4 +1,5 @@
-ghost use Rattle.std.specs.Prelude.{◌≡◌, ◌≤◌, ◌++◌, false, OnOk};
+ghost use Rattle.plain_types.specs.Appends.{Appends};
+ghost use Rattle.std.specs.Prelude.{◌≡◌, ◌≤◌, false};
 ghost use Rattle.std.specs.List.{flat_map};
 ghost use Rattle.std.specs.Fmt.{signed_decimal, digit_glyph};
 ghost use Rattle.run_report.specs.Texts.{bool_text, escaped_text, field_of, hex_byte};
@@ -8,7 +9,7 @@ use std::alloc::{AllocError, Global};
 
 /// Appends the field of the value: NULL is `\N`, and a text that begins with a backslash has one more.
 pub fn push_field(alloc: Global, field: &mut Vec<u8>, value: &Value) -> Result<(), AllocError>
-    ensures { OnOk result (field.new.items ≡ field.old.items ++ field_of value.now) }
+    ensures { Appends field.old.items field.new.items (field_of value.now) result }
 {
     match value {
         Value::Null => field.extend_from_slice(b"\\N"),
@@ -30,14 +31,14 @@ fn bool_text(b: bool) -> &'static [u8]
 }
 
 fn push_number(alloc: Global, field: &mut Vec<u8>, number: i128) -> Result<(), AllocError>
-    ensures { OnOk result (field.new.items ≡ field.old.items ++ signed_decimal number) }
+    ensures { Appends field.old.items field.new.items (signed_decimal number) result }
 {
     let text = format!(in alloc; "{number}")?;
     field.extend_from_slice(text.as_bytes())
 }
 
 fn push_escaped(field: &mut Vec<u8>, text: &[u8]) -> Result<(), AllocError>
-    ensures { OnOk result (field.new.items ≡ field.old.items ++ escaped_text text.now) }
+    ensures { Appends field.old.items field.new.items (escaped_text text.now) result }
 {
     if let [b'\\', ..] = text {
         field.push(b'\\')?;
@@ -46,7 +47,7 @@ fn push_escaped(field: &mut Vec<u8>, text: &[u8]) -> Result<(), AllocError>
 }
 
 fn push_hexadecimal(field: &mut Vec<u8>, bytes: &[u8]) -> Result<(), AllocError>
-    ensures { OnOk result (field.new.items ≡ field.old.items ++ flat_map hex_byte bytes.now) }
+    ensures { Appends field.old.items field.new.items (flat_map hex_byte bytes.now) result }
 {
     for byte in bytes {
         push_hex_byte(field, *byte)?;
@@ -55,7 +56,7 @@ fn push_hexadecimal(field: &mut Vec<u8>, bytes: &[u8]) -> Result<(), AllocError>
 }
 
 fn push_hex_byte(field: &mut Vec<u8>, byte: u8) -> Result<(), AllocError>
-    ensures { OnOk result (field.new.items ≡ field.old.items ++ hex_byte byte) }
+    ensures { Appends field.old.items field.new.items (hex_byte byte) result }
 {
     field.push(hex_digit(byte / 16))?;
     field.push(hex_digit(byte % 16))?;

@@ -1,5 +1,5 @@
 // Lines of texts, and the lines of rows.
-ghost use Rattle.std.specs.Prelude.{◌≡◌, ◌++◌, OnOk};
+ghost use Rattle.plain_types.specs.Appends.{Appends};
 ghost use Rattle.std.specs.List.{flat_map};
 ghost use Rattle.run_report.specs.Report.{line, row_line, row_lines};
 
@@ -11,7 +11,7 @@ use std::alloc::{AllocError, Global};
 
 /// Appends the text as one line, with its line feed.
 pub fn push_line(text: &[u8], out: &mut Vec<u8>) -> Result<(), AllocError>
-    ensures { OnOk result (out.new.items ≡ out.old.items ++ line text.now) }
+    ensures { Appends out.old.items out.new.items (line text.now) result }
 {
     push_escaped(out, text)?;
     out.push(b'\n')?;
@@ -20,14 +20,14 @@ pub fn push_line(text: &[u8], out: &mut Vec<u8>) -> Result<(), AllocError>
 
 /// Appends the lines of the rows, sorted by the bytes of their records.
 pub fn push_rows(alloc: Global, rows: &[Row], out: &mut Vec<u8>) -> Result<(), AllocError>
-    ensures { OnOk result (out.new.items ≡ out.old.items ++ row_lines rows.now) }
+    ensures { Appends out.old.items out.new.items (row_lines rows.now) result }
 {
     let records = sorted_records(alloc, rows)?;
     push_records(records.as_slice(), out)
 }
 
 fn push_records(records: &[Bytes], out: &mut Vec<u8>) -> Result<(), AllocError>
-    ensures { OnOk result (out.new.items ≡ out.old.items ++ flat_map row_line records.now) }
+    ensures { Appends out.old.items out.new.items (flat_map row_line records.now) result }
 {
     for text in records {
         push_row(text.as_slice(), out)?;
@@ -36,7 +36,7 @@ fn push_records(records: &[Bytes], out: &mut Vec<u8>) -> Result<(), AllocError>
 }
 
 fn push_row(text: &[u8], out: &mut Vec<u8>) -> Result<(), AllocError>
-    ensures { OnOk result (out.new.items ≡ out.old.items ++ row_line text.now) }
+    ensures { Appends out.old.items out.new.items (row_line text.now) result }
 {
     out.extend_from_slice(b"row ")?;
     push_line(text, out)

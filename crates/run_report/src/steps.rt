@@ -1,5 +1,6 @@
 // The lines of steps and of branches.
-ghost use Rattle.std.specs.Prelude.{◌≡◌, ◌++◌, OnOk};
+ghost use Rattle.plain_types.specs.Appends.{Appends};
+ghost use Rattle.std.specs.Prelude.{◌≡◌};
 ghost use Rattle.run_report.specs.Report.{ended, lines_of_answer, lines_of_branch, lines_of_event, lines_of_step, lines_of_steps, name_of, rows_under};
 
 use crate::lines::{answer_line, branch_line, event_line};
@@ -15,7 +16,7 @@ pub fn push_step(
     step: &Stepped,
     out: &mut Vec<u8>,
 ) -> Result<(), AllocError>
-    ensures { OnOk result (out.new.items ≡ out.old.items ++ lines_of_step names.now step.now) }
+    ensures { Appends out.old.items out.new.items (lines_of_step names.now step.now) result }
 {
     let Some(event) = &step.event else {
         return Ok(());
@@ -35,7 +36,7 @@ pub fn push_steps(
     steps: &[Stepped],
     out: &mut Vec<u8>,
 ) -> Result<(), AllocError>
-    ensures { OnOk result (out.new.items ≡ out.old.items ++ lines_of_steps names.now steps.now) }
+    ensures { Appends out.old.items out.new.items (lines_of_steps names.now steps.now) result }
 {
     for step in steps {
         push_step(alloc, names, step, out)?;
@@ -50,7 +51,7 @@ pub fn push_branch(
     rows: usize,
     out: &mut Vec<u8>,
 ) -> Result<(), AllocError>
-    ensures { OnOk result (out.new.items ≡ out.old.items ++ lines_of_branch name.now rows) }
+    ensures { Appends out.old.items out.new.items (lines_of_branch name.now rows) result }
 {
     let text = branch_line(alloc, name, rows as u64)?;
     push_ended(text.as_bytes(), out)
@@ -72,7 +73,7 @@ fn push_event(
     event: &Event,
     out: &mut Vec<u8>,
 ) -> Result<(), AllocError>
-    ensures { OnOk result (out.new.items ≡ out.old.items ++ lines_of_event session.now event.now) }
+    ensures { Appends out.old.items out.new.items (lines_of_event session.now event.now) result }
 {
     let text = event_line(alloc, session, event)?;
     push_ended(text.as_bytes(), out)
@@ -85,7 +86,7 @@ fn push_answer(
     answer: &Answer,
     out: &mut Vec<u8>,
 ) -> Result<(), AllocError>
-    ensures { OnOk result (out.new.items ≡ out.old.items ++ lines_of_answer session.now statement answer.now) }
+    ensures { Appends out.old.items out.new.items (lines_of_answer session.now statement answer.now) result }
 {
     let text = answer_line(alloc, session, statement, answer)?;
     push_ended(text.as_bytes(), out)?;
@@ -94,7 +95,7 @@ fn push_answer(
 
 // Appends the rows that the answer brings.
 fn push_rows_under(alloc: Global, answer: &Answer, out: &mut Vec<u8>) -> Result<(), AllocError>
-    ensures { OnOk result (out.new.items ≡ out.old.items ++ rows_under answer.now) }
+    ensures { Appends out.old.items out.new.items (rows_under answer.now) result }
 {
     match answer {
         Answer::Selected(rows) => push_rows(alloc, rows.as_slice(), out),
@@ -104,7 +105,7 @@ fn push_rows_under(alloc: Global, answer: &Answer, out: &mut Vec<u8>) -> Result<
 
 // Appends a line, in which no line feed stands, with the one that ends it.
 fn push_ended(text: &[u8], out: &mut Vec<u8>) -> Result<(), AllocError>
-    ensures { OnOk result (out.new.items ≡ out.old.items ++ ended text.now) }
+    ensures { Appends out.old.items out.new.items (ended text.now) result }
 {
     out.extend_from_slice(text)?;
     out.push(b'\n')?;
