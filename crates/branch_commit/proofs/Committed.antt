@@ -71,7 +71,9 @@ has_contents base scanned decisions pred names = record { added_data = data_entr
 
 -- ---- the statement on the rows of its branch
 
-module _ (base : State) (sources : List Source) (s : Statement) (scanned : List ScannedFile) (names : Names) (planned written : Files) (rows : List (List Value)) (is : IsPlanned base sources s scanned planned) (wrote : IsWritten base sources s scanned names planned written) (held : rows_of_branch base.table base.version base.branch planned ≡ Ok rows) where
+module _ (base : State) (sources : List Source) (s : Statement) (scanned : List ScannedFile) (names : Names) (planned written : Files)
+    (rows : List (List Value)) (is : IsPlanned base sources s scanned planned) (wrote : IsWritten base sources s scanned names planned written)
+    (held : rows_of_branch base.table base.version base.branch planned ≡ Ok rows) where
   abbrev p : Parts
   p = parts base.metadata
 
@@ -108,8 +110,12 @@ module _ (base : State) (sources : List Source) (s : Statement) (scanned : List 
 
 -- ---- and its commit
 
-module _ (base head : State) (sources : List Source) (s : Statement) (scanned : List ScannedFile) (names drawn : Names) (now : ℤ) (planned written ready later : Files) (prepared : Prepared) (rows : List (List Value)) (table : head.table ≡ base.table) (version : head.version ≡ base.version) (branch : head.branch ≡ base.branch)
-    (is : IsPlanned base sources s scanned planned) (wrote : IsWritten base sources s scanned names planned written) (kept : KeepsFiles (Some planned) (Some written)) (still : KeepsFiles (Some written) (Some ready)) (prepares : IsPrepared head (change_by base scanned sources s names) drawn now ready prepared)
+module _ (base head : State) (sources : List Source) (s : Statement) (scanned : List ScannedFile) (names drawn : Names) (now : ℤ)
+    (planned written ready later : Files) (prepared : Prepared) (rows : List (List Value)) (table : head.table ≡ base.table)
+    (version : head.version ≡ base.version) (branch : head.branch ≡ base.branch)
+    (is : IsPlanned base sources s scanned planned) (wrote : IsWritten base sources s scanned names planned written)
+    (kept : KeepsFiles (Some planned) (Some written)) (still : KeepsFiles (Some written) (Some ready))
+    (prepares : IsPrepared head (change_by base scanned sources s names) drawn now ready prepared)
     (keeps : KeepsFiles (Some (files_after head (change_by base scanned sources s names) drawn ready)) (Some later)) (stands : map.get later (version_name head.table (head.version + 1)) ≡ Some prepared.bytes) (held : rows_of_branch base.table base.version base.branch planned ≡ Ok rows) where
   abbrev change : ChangeSet
   change = change_by base scanned sources s names

@@ -10,6 +10,7 @@ ghost use Rattle.change_sets.specs.Laid.{as_kept};
 
 /// The same files, in another order and with other statuses, have the same rows, as a bag.
 pub fn rows_of_files_are_a_bag()
-    ensures { (table : Seq ℕ) (parts : Parts) (files : Files) (others entries : Seq Entry) (rows : Seq (Seq Value)) → SameBag (map as_kept others) (map as_kept entries) → data_rows table parts [] entries files ≡ Ok rows
+    ensures { (table : Seq ℕ) (parts : Parts) (files : Files) (others entries : Seq Entry) (rows : Seq (Seq Value))
+        → SameBag (map as_kept others) (map as_kept entries) → data_rows table parts [] entries files ≡ Ok rows
         → (found : Seq (Seq Value)) × (data_rows table parts [] others files ≡ Ok found) × SameBag found rows }
 {}

@@ -115,6 +115,9 @@ module _ (head : State) (change : ChangeSet) (names : Names) (now : ℤ) (number
       schema_int = λ n is. let same : head.metadata.current_schema ≡ n = cc in subst IsInt same numbers.schema.1;
     };
     told = grind (arith, ints, id_is);
-    new = no_snapshot (next_id ids) head.metadata.snapshots (not_in_front (next_id ids) (map snapshot_id head.metadata.snapshots) (map entry_snapshot (live_in head.head).data_files) (not_in_front (next_id ids) (map snapshot_id head.metadata.snapshots ++ map entry_snapshot (live_in head.head).data_files) (map entry_snapshot (live_in head.head).deletes) (next_is_new ids numbers.few)));
+    new = no_snapshot (next_id ids) head.metadata.snapshots (not_in_front (next_id ids) (map snapshot_id head.metadata.snapshots)
+        (map entry_snapshot (live_in head.head).data_files) (not_in_front (next_id ids)
+        (map snapshot_id head.metadata.snapshots ++ map entry_snapshot (live_in head.head).data_files)
+        (map entry_snapshot (live_in head.head).deletes) (next_is_new ids numbers.few)));
     time = hour_is;
   }

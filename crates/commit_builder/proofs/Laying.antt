@@ -134,7 +134,9 @@ module _ (P : ℤ → Entry → Type 0) (specs : List Spec) (schema : TableSchem
     shut_added : (change : ChangeSet) → AllByRecursion Added change.added_data → AllByRecursion Added change.added_deletes
         → Shut (added_drafts specs schema numbers change)
     unfolding added_drafts
-    shut_added change ds xs = shut_groups content.Deletes change.added_deletes (and_groups specs schema numbers content.Data change.added_data nothing (spec_ids [] change.added_data)) (spec_ids [] change.added_deletes) (shut_groups content.Data change.added_data nothing (spec_ids [] change.added_data) (record { all = tt; none = refl }) ds) xs
+    shut_added change ds xs = shut_groups content.Deletes change.added_deletes
+        (and_groups specs schema numbers content.Data change.added_data nothing (spec_ids [] change.added_data)) (spec_ids [] change.added_deletes)
+        (shut_groups content.Data change.added_data nothing (spec_ids [] change.added_data) (record { all = tt; none = refl }) ds) xs
 
   module _ (snapshot : ℤ) (kept : (id : ℤ) (entry : Entry) → P id entry → P id (as_kept entry)) (gone : (id : ℤ) (entry : Entry) → P id entry → P id (as_removed snapshot entry)) where
     rewritten_by : (b : Bool) (id : ℤ) (entry : Entry) → P id entry → P id (if b then as_removed snapshot entry else as_kept entry)
@@ -162,7 +164,9 @@ module _ (P : ℤ → Entry → Type 0) (specs : List Spec) (schema : TableSchem
     abbrev pub OfHead : List ManifestRow → List LiveCount → List Entry → List Entry → Type 0
     OfHead [] counts data_files deletes = ⊤
     OfHead (row ∷ rows) [] data_files deletes = ⊤
-    OfHead (row ∷ rows) (count ∷ counts) data_files deletes = (AllByRecursion (P row.partition_spec_id) (take count.data_files data_files) × AllByRecursion (P row.partition_spec_id) (take count.deletes deletes)) × OfHead rows counts (drop count.data_files data_files) (drop count.deletes deletes)
+    OfHead (row ∷ rows) (count ∷ counts) data_files deletes = (AllByRecursion (P row.partition_spec_id) (take count.data_files data_files)
+        × AllByRecursion (P row.partition_spec_id) (take count.deletes deletes))
+        × OfHead rows counts (drop count.data_files data_files) (drop count.deletes deletes)
 
     shut_head : (removed : List Entry) (s : Sorted) (rows : List ManifestRow) (counts : List LiveCount)
         (data_files deletes : List Entry) → Shut s.drafts → OfHead rows counts data_files deletes
@@ -384,9 +388,13 @@ new_listed head schema numbers names rows (draft ∷ drafts) h =
     let path : List ℕ = next_name (folder_of head.metadata.location) names in
     let size : ℕ = length (text_in head schema draft) in
     new_listed head schema numbers (drawn names) (rows ++ row_in head schema numbers names draft ∷ []) drafts
-    (all_joined_true rows (row_in head schema numbers names draft ∷ []) h (both (is_listed (row_of path size spec draft.content numbers draft.entries)) true (listed_is (row_of path size spec draft.content numbers draft.entries) (row_listed path size spec draft.content numbers draft.entries)) refl))
+    (all_joined_true rows (row_in head schema numbers names draft ∷ []) h
+    (both (is_listed (row_of path size spec draft.content numbers draft.entries)) true
+    (listed_is (row_of path size spec draft.content numbers draft.entries) (row_listed path size spec draft.content numbers draft.entries)) refl))
 
-module _ (head : State) (change : ChangeSet) (names : Names) (now : ℤ) (version : ℕ) (old : Files) (is : IsStateOf head.table version head.branch old head) (numbers : HasNumbers head now) (anew : CanBeRewritten head) (data_added : AllByRecursion (CanBeAdded head) change.added_data) (deletes_added : AllByRecursion (CanBeAdded head) change.added_deletes) where
+module _ (head : State) (change : ChangeSet) (names : Names) (now : ℤ) (version : ℕ) (old : Files)
+    (is : IsStateOf head.table version head.branch old head) (numbers : HasNumbers head now) (anew : CanBeRewritten head)
+    (data_added : AllByRecursion (CanBeAdded head) change.added_data) (deletes_added : AllByRecursion (CanBeAdded head) change.added_deletes) where
   abbrev Held : ℤ → Entry → Type 0
   Held = IsHeld head.metadata.specs (schema_of head)
 
@@ -403,7 +411,9 @@ module _ (head : State) (change : ChangeSet) (names : Names) (now : ℤ) (versio
   of_drafts = all_of_drafts Held head.metadata.specs (schema_of head) (numbers_in head).snapshot kept_held gone_held (numbers_in head) change (manifests_of head.head) head.held (live_in head.head) refl
       (mapped (CanBeAdded head) (λ entry. Held entry.spec (as_added (numbers_in head) entry)) added_held change.added_data data_added)
       (mapped (CanBeAdded head) (λ entry. Held entry.spec (as_added (numbers_in head) entry)) added_held change.added_deletes deletes_added)
-      (head_held head.metadata.specs (schema_of head) head.table (parts head.metadata) old refl anew.schema (numbers_in head).snapshot kept_held gone_held (manifests_of head.head) head.held (live_in head.head).data_files (live_in head.head).deletes (head_known head.table head.branch version old head is))
+      (head_held head.metadata.specs (schema_of head) head.table (parts head.metadata) old refl anew.schema
+      (numbers_in head).snapshot kept_held gone_held (manifests_of head.head) head.held (live_in head.head).data_files (live_in head.head).deletes
+      (head_known head.table head.branch version old head is))
 
   spec_found : (entries : List Entry) (id : ℤ) → AtLeastOne entries → AllByRecursion (Held id) entries
       → spec_with id head.metadata.specs ≡ Some (spec_in head.metadata.specs id)

@@ -82,8 +82,14 @@ module _ (table branch : List ℕ) (version : ℕ) (files : Files) (loaded : Sta
 
 -- ---- the whole
 
-module _ (head : State) (change : ChangeSet) (names : Names) (now : ℤ) (old files later : Files) (prepared : Prepared) (left written : List (List Value)) (is : IsStateOf head.table head.version head.branch old head) (kept : KeepsFiles (Some old) (Some files)) (none : NoneFrom head.table names.run names.session names.next files) (proper : AreNames names) (few : length (drafts_in head change) < 2 ^ 100) (spelled : AreSpelled head change names) (laid_on : CanBeLaid head change names now) (contents : HasContents change)
-    (prepares : Prepares head head.branch change names now prepared) (keeps : KeepsFiles (Some (files_after head change names files)) (Some later)) (stands : files_map.get later (version_name head.table (head.version + 1)) ≡ Some prepared.bytes) (left_read : data_rows head.table (parts head.metadata) [] (without change.removed (live_in head.head).data_files) old ≡ Ok left) (written_read : data_rows head.table (parts head.metadata) [] change.added_data files ≡ Ok written) where
+module _ (head : State) (change : ChangeSet) (names : Names) (now : ℤ) (old files later : Files) (prepared : Prepared)
+    (left written : List (List Value)) (is : IsStateOf head.table head.version head.branch old head) (kept : KeepsFiles (Some old) (Some files))
+    (none : NoneFrom head.table names.run names.session names.next files) (proper : AreNames names) (few : length (drafts_in head change) < 2 ^ 100)
+    (spelled : AreSpelled head change names) (laid_on : CanBeLaid head change names now) (contents : HasContents change)
+    (prepares : Prepares head head.branch change names now prepared) (keeps : KeepsFiles (Some (files_after head change names files)) (Some later))
+    (stands : files_map.get later (version_name head.table (head.version + 1)) ≡ Some prepared.bytes)
+    (left_read : data_rows head.table (parts head.metadata) [] (without change.removed (live_in head.head).data_files) old ≡ Ok left)
+    (written_read : data_rows head.table (parts head.metadata) [] change.added_data files ≡ Ok written) where
   abbrev p : Parts
   p = next_parts head change names now
 
@@ -131,7 +137,9 @@ module _ (head : State) (change : ChangeSet) (names : Names) (now : ℤ) (old fi
   after_parts : (list_all is_data after.data_files ≡ true) × (list_all (λ entry. not (is_data entry)) after.deletes ≡ true)
   after_parts =
       let own = head_parts head.table head.branch head.version old head is in (
-        joined is_data (without change.removed (live_in head.head).data_files) (map (as_added (numbers_in head)) change.added_data) (filtered is_data (λ entry. not (is_among change.removed entry)) (live_in head.head).data_files own.0) (mapped is_data (as_added (numbers_in head)) (λ entry. refl) change.added_data contents.added_data),
+        joined is_data (without change.removed (live_in head.head).data_files) (map (as_added (numbers_in head)) change.added_data)
+            (filtered is_data (λ entry. not (is_among change.removed entry)) (live_in head.head).data_files own.0)
+            (mapped is_data (as_added (numbers_in head)) (λ entry. refl) change.added_data contents.added_data),
         joined (λ entry. not (is_data entry)) (live_in head.head).deletes (map (as_added (numbers_in head)) change.added_deletes) own.1 (mapped (λ entry. not (is_data entry)) (as_added (numbers_in head)) (λ entry. refl) change.added_deletes contents.added_deletes),
       )
 

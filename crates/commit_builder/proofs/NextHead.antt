@@ -139,7 +139,11 @@ parted_by table branch version files loaded is state.Absent h = (refl, refl)
 parted_by table branch version files loaded is state.Empty h = (refl, refl)
 parted_by table branch version files loaded is (state.Head snapshot rows live) h = head_is_parted table branch version files loaded snapshot rows live is h
 
-module _ (head : State) (change : ChangeSet) (names : Names) (now : ℤ) (version : ℕ) (old files later : Files) (is : IsStateOf head.table version head.branch old head) (kept : KeepsFiles (Some old) (Some files)) (none : NoneFrom head.table names.run names.session names.next files) (proper : AreNames names) (few : length (drafts_in head change) < 2 ^ 100) (spelled : AreSpelled head change names) (laid_on : CanBeLaid head change names now) (keeps : KeepsFiles (Some (files_after head change names files)) (Some later)) where
+module _ (head : State) (change : ChangeSet) (names : Names) (now : ℤ) (version : ℕ) (old files later : Files)
+    (is : IsStateOf head.table version head.branch old head) (kept : KeepsFiles (Some old) (Some files))
+    (none : NoneFrom head.table names.run names.session names.next files) (proper : AreNames names) (few : length (drafts_in head change) < 2 ^ 100)
+    (spelled : AreSpelled head change names) (laid_on : CanBeLaid head change names now)
+    (keeps : KeepsFiles (Some (files_after head change names files)) (Some later)) where
   abbrev p : Parts
   p = next_parts head change names now
 

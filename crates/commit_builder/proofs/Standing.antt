@@ -39,7 +39,9 @@ module _ (table : List ℕ) (p : Parts) (files : Files) where
   abbrev pub Known : List ManifestRow → List LiveCount → List Entry → List Entry → Type 0
   Known [] counts data_files deletes = ⊤
   Known (row ∷ rows) [] data_files deletes = ⊥
-  Known (row ∷ rows) (count ∷ counts) data_files deletes = ((entries : List Entry) × (manifest_at table p row files ≡ Ok entries) × (take count.data_files data_files ≡ live_data entries) × (take count.deletes deletes ≡ live_deletes entries)) × Known rows counts (drop count.data_files data_files) (drop count.deletes deletes)
+  Known (row ∷ rows) (count ∷ counts) data_files deletes = ((entries : List Entry) × (manifest_at table p row files ≡ Ok entries)
+      × (take count.data_files data_files ≡ live_data entries) × (take count.deletes deletes ≡ live_deletes entries))
+      × Known rows counts (drop count.data_files data_files) (drop count.deletes deletes)
 
   record Behind (rows : List ManifestRow) (earlier all : List Entry) (before counts : List LiveCount) : Type 0 where
     more : List Entry
@@ -60,7 +62,15 @@ module _ (table : List ℕ) (p : Parts) (files : Files) where
         joined = b.joined ∙ append_assoc earlier entries b.more;
         counted = b.counted ∙ append_assoc before (count_of entries ∷ []) b.own;
         known = (
-          (entries, read, ap (take (length (live_data entries))) data_is ∙ take_at (live_data entries) (live_data b.more) (length (live_data entries)) refl, ap (take (length (live_deletes entries))) deletes_are ∙ take_at (live_deletes entries) (live_deletes b.more) (length (live_deletes entries)) refl),
+          (
+            entries,
+            read,
+            ap (take (length (live_data entries))) data_is
+                ∙ take_at (live_data entries) (live_data b.more) (length (live_data entries)) refl,
+            ap
+                (take (length (live_deletes entries))) deletes_are
+                ∙ take_at (live_deletes entries) (live_deletes b.more) (length (live_deletes entries)) refl,
+          ),
           subst (λ (xs : List Entry). Known rows b.own xs (drop (length (live_deletes entries)) (live_deletes (entries ++ b.more)))) (sym (ap (drop (length (live_data entries))) data_is ∙ drop_at (live_data entries) (live_data b.more) (length (live_data entries)) refl))
               (subst (λ (ys : List Entry). Known rows b.own (live_data b.more) ys) (sym (ap (drop (length (live_deletes entries))) deletes_are ∙ drop_at (live_deletes entries) (live_deletes b.more) (length (live_deletes entries)) refl)) b.known),
         );
@@ -147,14 +157,18 @@ module _ (specs : List Spec) (schema : TableSchema) (removed : List Entry) (snap
       let rest : List ManifestRow = kept_rows removed rows counts (drop count.data_files data_files) (drop count.deletes deletes) in
       let row_own : List ManifestRow = own_row (has_removed removed own) (is_empty own && is_empty own_deletes) row in
       standing_is (and_manifest specs schema removed snapshot s row own own_deletes) rows counts (drop count.data_files data_files) (drop count.deletes deletes)
-      ∙ ap (λ (rs : List ManifestRow). rs ++ rest) (one_stands (has_removed removed own) (is_empty own && is_empty own_deletes) s row (finished (and_rewritten specs schema [] snapshot (and_rewritten specs schema removed snapshot (begun row.partition_spec_id row.content s.drafts) own) own_deletes)))
+      ∙ ap (λ (rs : List ManifestRow). rs ++ rest) (one_stands (has_removed removed own) (is_empty own && is_empty own_deletes) s row
+      (finished (and_rewritten specs schema [] snapshot (and_rewritten specs schema removed snapshot
+      (begun row.partition_spec_id row.content s.drafts) own) own_deletes)))
       ∙ append_assoc s.standing row_own rest
 
 -- those of the head's that stand in a commit's list
 pub standing_in : (head : State) (change : ChangeSet)
     → (sorted_in head change).standing ≡ kept_rows change.removed (manifests_of head.head) head.held (live_in head.head).data_files (live_in head.head).deletes
 unfolding sorted_of
-standing_in head change = standing_is head.metadata.specs (schema_of head) change.removed (numbers_in head).snapshot (record { drafts = added_drafts head.metadata.specs (schema_of head) (numbers_in head) change; standing = [] }) (manifests_of head.head) head.held (live_in head.head).data_files (live_in head.head).deletes
+standing_in head change = standing_is head.metadata.specs (schema_of head) change.removed (numbers_in head).snapshot
+    (record { drafts = added_drafts head.metadata.specs (schema_of head) (numbers_in head) change; standing = [] }) (manifests_of head.head) head.held
+    (live_in head.head).data_files (live_in head.head).deletes
 
 -- ---- what they hold
 

@@ -35,7 +35,8 @@ pub fn a_table_has_numbers()
 
 /// The data files that a change adds can be added to a table of the form, where they have the sizes of files.
 pub fn a_written_file_can_be_added()
-    ensures { (base : Loaded) (scanned : Seq ScannedFile) (decisions : Decided) (pred : Pred) (names : Drawn) (version : ℕ) (files : Files) → IsStateOf base.table version base.branch files base → is_plain_table (parts base.metadata) ≡ true
+    ensures { (base : Loaded) (scanned : Seq ScannedFile) (decisions : Decided) (pred : Pred) (names : Drawn) (version : ℕ)
+        (files : Files) → IsStateOf base.table version base.branch files base → is_plain_table (parts base.metadata) ≡ true
         → AreShort (schema_of base.metadata).columns (pieces_in base scanned decisions)
         → AllByRecursion (CanBeAdded base) (change_of base scanned decisions pred names).added_data }
 {}
@@ -43,7 +44,8 @@ pub fn a_written_file_can_be_added()
 /// The data files that a change adds to a table of the form are read again, where they have the sizes of files and as many
 /// names are left.
 pub fn written_files_can_be_read()
-    ensures { (base : Loaded) (scanned : Seq ScannedFile) (decisions : Decided) (names : Drawn) (version : ℕ) (files : Files) → IsStateOf base.table version base.branch files base → is_plain_table (parts base.metadata) ≡ true
+    ensures { (base : Loaded) (scanned : Seq ScannedFile) (decisions : Decided) (names : Drawn) (version : ℕ) (files : Files)
+        → IsStateOf base.table version base.branch files base → is_plain_table (parts base.metadata) ≡ true
         → AreNames names → names.next + length (pieces_in base scanned decisions) ≤ 2 ^ 128
         → AreShort (schema_of base.metadata).columns (pieces_in base scanned decisions)
         → CanBeRead base names (pieces_in base scanned decisions) }
@@ -51,7 +53,9 @@ pub fn written_files_can_be_read()
 
 /// A change that was planned on a version of a table of the form can be laid on a version of the same schemas and specs.
 pub fn a_change_of_a_plain_table_can_be_laid()
-    ensures { (base head : Loaded) (scanned : Seq ScannedFile) (decisions : Decided) (pred : Pred) (names drawn : Drawn) (now : ℤ) (planned version : ℕ) (old files : Files) → IsStateOf base.table planned base.branch old base → is_plain_table (parts base.metadata) ≡ true
+    ensures { (base head : Loaded) (scanned : Seq ScannedFile) (decisions : Decided) (pred : Pred) (names drawn : Drawn)
+        (now : ℤ) (planned version : ℕ) (old files : Files) → IsStateOf base.table planned base.branch old base
+        → is_plain_table (parts base.metadata) ≡ true
         → IsStateOf head.table version head.branch files head → is_plain_table (parts head.metadata) ≡ true
         → HasSchemasOf base head → int_lt head.metadata.last_sequence last ≡ true → IsLong now
         → length (ids_of head.metadata.snapshots (live_in head.head)) < 2 ^ 62

@@ -26,7 +26,8 @@ ghost use Rattle.commit_manifests.specs.Sorting.{has_id};
 /// The manifests of a commit, those that are written and those that stand, hold live the files of the head with the change
 /// laid on them, each once, in some order and with some status, where each manifest of the head holds as many as is said.
 pub fn a_commit_holds_the_change()
-    ensures { (specs : Seq Spec) (schema : TableSchema) (numbers : AddedAs) (change : ChangeSet) (rows : Seq ManifestRow) (counts : Seq Count) (live : Live) → IsParted rows counts live.data_files live.deletes
+    ensures { (specs : Seq Spec) (schema : TableSchema) (numbers : AddedAs) (change : ChangeSet) (rows : Seq ManifestRow)
+        (counts : Seq Count) (live : Live) → IsParted rows counts live.data_files live.deletes
         → SameBag (map as_kept (held_after specs schema numbers change rows counts live))
         (map as_kept ((laid numbers live change).data_files ++ (laid numbers live change).deletes)) }
 {}
@@ -40,7 +41,8 @@ pub fn the_next_id_is_new()
 /// laid on them, in some order and with some status, in all files that keep what the commit put: where the head was loaded,
 /// names of the session are free, and what is written can be read again.
 pub fn a_prepared_version_holds_the_change()
-    ensures { (head : Loaded) (change : ChangeSet) (names : Drawn) (now : ℤ) (version : ℕ) (old files later : Files) → IsStateOf head.table version head.branch old head → KeepsFiles (Some old) (Some files)
+    ensures { (head : Loaded) (change : ChangeSet) (names : Drawn) (now : ℤ) (version : ℕ) (old files later : Files)
+        → IsStateOf head.table version head.branch old head → KeepsFiles (Some old) (Some files)
         → NoneFrom head.table names.run names.session names.next files → AreNames names → length (drafts_in head change) < 2 ^ 100
         → AreSpelled head change names → CanBeLaid head change names now
         → KeepsFiles (Some (files_after head change names files)) (Some later) → HoldsChange head change names now later }
@@ -56,6 +58,7 @@ pub fn a_commit_can_follow()
 /// A change can be laid on a head that was read, where the table has its schema and specs that can be written, and each added
 /// entry is of one of them and can be written too: what is read of the head's manifests can be written again.
 pub fn a_change_can_be_laid()
-    ensures { (head : Loaded) (change : ChangeSet) (names : Drawn) (now : ℤ) (version : ℕ) (old : Files) → IsStateOf head.table version head.branch old head → HasNumbers head now → CanBeRewritten head
+    ensures { (head : Loaded) (change : ChangeSet) (names : Drawn) (now : ℤ) (version : ℕ) (old : Files)
+        → IsStateOf head.table version head.branch old head → HasNumbers head now → CanBeRewritten head
         → AllByRecursion (CanBeAdded head) change.added_data → AllByRecursion (CanBeAdded head) change.added_deletes → CanBeLaid head change names now }
 {}

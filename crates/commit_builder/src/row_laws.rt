@@ -22,7 +22,9 @@ ghost use Rattle.commit_builder.specs.Contents.{HasContents};
 /// The version that a commit prepares, once it stands under its name, has the rows of the head's data files that are not
 /// removed and those of the added ones, as a bag: in all files that keep what was there and what the commit put.
 pub fn the_next_version_has_the_rows()
-    ensures { (head : Loaded) (change : ChangeSet) (names : Drawn) (now : ℤ) (old files later : Files) (prepared : Prepared) (left written : Seq (Seq Value)) → IsStateOf head.table head.version head.branch old head → KeepsFiles (Some old) (Some files)
+    ensures { (head : Loaded) (change : ChangeSet) (names : Drawn) (now : ℤ) (old files later : Files) (prepared : Prepared)
+        (left written : Seq (Seq Value)) → IsStateOf head.table head.version head.branch old head
+        → KeepsFiles (Some old) (Some files)
         → NoneFrom head.table names.run names.session names.next files → AreNames names → length (drafts_in head change) < 2 ^ 100
         → AreSpelled head change names → CanBeLaid head change names now → HasContents change
         → Prepares head head.branch change names now prepared

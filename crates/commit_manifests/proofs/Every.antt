@@ -70,7 +70,9 @@ module _ (P : Entry → Type 0) (specs : List Spec) (schema : TableSchema) where
 
     have_added : (change : ChangeSet) → Have (added_drafts specs schema numbers change)
     unfolding added_drafts
-    have_added change = have_groups content.Deletes change.added_deletes (and_groups specs schema numbers content.Data change.added_data nothing (spec_ids [] change.added_data)) (spec_ids [] change.added_deletes) (have_groups content.Data change.added_data nothing (spec_ids [] change.added_data) (tt, tt))
+    have_added change = have_groups content.Deletes change.added_deletes
+        (and_groups specs schema numbers content.Data change.added_data nothing (spec_ids [] change.added_data)) (spec_ids [] change.added_deletes)
+        (have_groups content.Data change.added_data nothing (spec_ids [] change.added_data) (tt, tt))
 
   module _ (snapshot : ℤ) (kept : (entry : Entry) → P (as_kept entry)) (gone : (entry : Entry) → P (as_removed snapshot entry)) where
     rewritten_by : (b : Bool) (entry : Entry) → P (if b then as_removed snapshot entry else as_kept entry)

@@ -78,7 +78,10 @@ module _ (side : Ordering) (k : Kind) (place : ℕ) (R : Value → Value → Ord
       let others : Bool = list_all (λ e. by_option (part_at place e) (is_value k) true) entries in
       let kp : OfKind (part_at place entry) = of_test (part_at place entry) (first (by_option (part_at place entry) (is_value k) true) others h) in
       let taken : UpTo best (outermost side best part) × UpTo part (outermost side best part) × OfKind (outermost side best part) = step best part kb kp in
-      let rest : UpTo (outermost side best part) (outermost_from side place (outermost side best part) entries) × OfKind (outermost_from side place (outermost side best part) entries) × AllUpTo (outermost_from side place (outermost side best part) entries) entries = goes entries (outermost side best part) taken.2 (second (by_option (part_at place entry) (is_value k) true) others h) in
+      let rest : UpTo (outermost side best part) (outermost_from side place (outermost side best part) entries)
+      × OfKind (outermost_from side place (outermost side best part) entries)
+      × AllUpTo (outermost_from side place (outermost side best part) entries) entries = goes entries (outermost side best part) taken.2
+      (second (by_option (part_at place entry) (is_value k) true) others h) in
       (onward best (outermost side best part) _ taken.0 rest.0, rest.1, (onward part (outermost side best part) _ taken.1 rest.0, rest.2))
 
   covers : (bound part : Option Value) → OfKind bound → OfKind part → UpTo part bound → is_covered side bound part ≡ true

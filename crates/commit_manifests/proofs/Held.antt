@@ -116,7 +116,9 @@ ids_keep n ids (entry ∷ entries) k h = ids_keep n (insert entry.spec ids) entr
 ids_have : (ids : List ℤ) (entries : List Entry) (entry : Entry) → In entry entries → 1 ≤ times entry.spec (spec_ids ids entries)
 unfolding spec_ids
 ids_have ids [] entry there = absurd there
-ids_have ids (first ∷ entries) entry (inl here) = subst (λ (e : Entry). 1 ≤ times e.spec (spec_ids (insert first.spec ids) entries)) (sym here) (ids_keep first.spec (insert first.spec ids) entries 1 (insert_has_by (list_any (λ one. int_eq one first.spec) ids) first.spec ids (same_test first.spec ids)))
+ids_have ids (first ∷ entries) entry (inl here) = subst (λ (e : Entry). 1 ≤ times e.spec (spec_ids (insert first.spec ids) entries)) (sym here)
+    (ids_keep first.spec (insert first.spec ids) entries 1 (insert_has_by (list_any (λ one. int_eq one first.spec) ids) first.spec ids
+    (same_test first.spec ids)))
 ids_have ids (first ∷ entries) entry (inr there) = ids_have (insert first.spec ids) entries entry there
 
 none_yet : (n : ℤ) → times n [] ≤ 1
@@ -227,7 +229,9 @@ module _ (specs : List Spec) (schema : TableSchema) (w : Entry → ℕ) where
     once entries entry there = omega (arith, ids_have [] entries entry there, ids_once entry.spec [] entries (none_yet entry.spec))
 
     groups_weigh : (entries : List Entry) → total (group_weight entries) (spec_ids [] entries) ≡ total added_weight entries
-    groups_weigh entries = by_entry entries (spec_ids [] entries) ∙ total-weights (λ entry. total (λ id. cond (int_eq entry.spec id) (added_weight entry) 0) (spec_ids [] entries)) added_weight entries (λ entry there. one_weighs entry.spec (added_weight entry) (spec_ids [] entries) (once entries entry there))
+    groups_weigh entries = by_entry entries (spec_ids [] entries)
+        ∙ total-weights (λ entry. total (λ id. cond (int_eq entry.spec id) (added_weight entry) 0) (spec_ids [] entries)) added_weight entries
+        (λ entry there. one_weighs entry.spec (added_weight entry) (spec_ids [] entries) (once entries entry there))
 
     added_weigh : (change : ChangeSet)
         → mass (added_drafts specs schema numbers change) ≡ total added_weight change.added_data + total added_weight change.added_deletes
@@ -291,7 +295,12 @@ module _ (specs : List Spec) (schema : TableSchema) (w : Entry → ℕ) where
     stands_by false s row = refl
 
     one_manifest_by : (b : Bool) (s : Sorted) (row : ManifestRow) (data_files deletes : List Entry) → has_removed removed data_files ≡ b
-        → mass (if b then record s { drafts = finished (and_rewritten specs schema [] snapshot (and_rewritten specs schema removed snapshot (begun row.partition_spec_id row.content s.drafts) data_files) deletes) } else if is_empty data_files && is_empty deletes then s else record s { standing = s.standing ++ row ∷ [] }).drafts + total weight (own_standing b data_files deletes)
+        → mass (if b then record s {
+          drafts = finished (and_rewritten specs schema [] snapshot
+              (and_rewritten specs schema removed snapshot
+              (begun row.partition_spec_id row.content s.drafts) data_files) deletes);
+        } else if is_empty data_files && is_empty deletes then s else record s { standing = s.standing ++ row ∷ [] }).drafts + total weight
+        (own_standing b data_files deletes)
         ≡ mass s.drafts + total left_weight data_files + total weight deletes
     one_manifest_by true s row data_files deletes e =
         let first = and_rewritten specs schema removed snapshot (begun row.partition_spec_id row.content s.drafts) data_files in
@@ -358,7 +367,9 @@ module _ (specs : List Spec) (schema : TableSchema) (w : Entry → ℕ) where
 
   added_are_shut : (numbers : AddedAs) (change : ChangeSet) → (added_drafts specs schema numbers change).piece ≡ []
   unfolding added_drafts
-  added_are_shut numbers change = groups_are_shut numbers content.Deletes change.added_deletes (and_groups specs schema numbers content.Data change.added_data nothing (spec_ids [] change.added_data)) (spec_ids [] change.added_deletes) (groups_are_shut numbers content.Data change.added_data nothing (spec_ids [] change.added_data) refl)
+  added_are_shut numbers change = groups_are_shut numbers content.Deletes change.added_deletes
+      (and_groups specs schema numbers content.Data change.added_data nothing (spec_ids [] change.added_data)) (spec_ids [] change.added_deletes)
+      (groups_are_shut numbers content.Data change.added_data nothing (spec_ids [] change.added_data) refl)
 
   shut_mass : (d : Drafts) → d.piece ≡ [] → mass d ≡ held (entries_of d.closed)
   shut_mass d h = rw h (omega arith)

@@ -110,4 +110,19 @@ long_of size = if nat_lt size (2 ^ 63) then Some (pos size) else None
 
 -- each field in the list corresponds to a field in the manifest file's partition spec (507)
 abbrev pub row_of : List ℕ → ℕ → Spec → ManifestContent → CommitNumbers → List Entry → ManifestRow
-row_of path size spec content numbers entries = record { manifest_path = path; manifest_length = long_of size; partition_spec_id = spec.id; content = content; sequence_number = numbers.seq; min_sequence_number = least_number numbers.seq entries; added_snapshot_id = numbers.snapshot; added_files_count = Some (files_with 1 entries); existing_files_count = Some (files_with 0 entries); deleted_files_count = Some (files_with 2 entries); added_rows_count = Some (rows_with 1 entries); existing_rows_count = Some (rows_with 0 entries); deleted_rows_count = Some (rows_with 2 entries); partitions = map (λ place. summary_at place entries) (range_with_len 0 (length spec.fields)) }
+row_of path size spec content numbers entries = record {
+  manifest_path = path;
+  manifest_length = long_of size;
+  partition_spec_id = spec.id;
+  content = content;
+  sequence_number = numbers.seq;
+  min_sequence_number = least_number numbers.seq entries;
+  added_snapshot_id = numbers.snapshot;
+  added_files_count = Some (files_with 1 entries);
+  existing_files_count = Some (files_with 0 entries);
+  deleted_files_count = Some (files_with 2 entries);
+  added_rows_count = Some (rows_with 1 entries);
+  existing_rows_count = Some (rows_with 0 entries);
+  deleted_rows_count = Some (rows_with 2 entries);
+  partitions = map (λ place. summary_at place entries) (range_with_len 0 (length spec.fields));
+}

@@ -170,7 +170,8 @@ impl Commit<'_> {
         deletes: &[Entry],
         sorted: &mut Sorted,
     ) -> Result<(), AllocError>
-        ensures { OnOk result (seen_sorted sorted.new ≡ and_manifest self.now.specs.now self.now.schema.now self.now.removed.now self.now.numbers.snapshot (seen_sorted sorted.old) row.now data_files.now deletes.now) }
+        ensures { OnOk result (seen_sorted sorted.new ≡ and_manifest self.now.specs.now self.now.schema.now self.now.removed.now self.now.numbers.snapshot
+            (seen_sorted sorted.old) row.now data_files.now deletes.now) }
     {
         if has_removed(self.removed, data_files) {
             let drafts = &mut sorted.drafts;
@@ -194,7 +195,8 @@ impl Commit<'_> {
         live: &LiveSet,
         sorted: &mut Sorted,
     ) -> Result<(), AllocError>
-        ensures { OnOk result (seen_sorted sorted.new ≡ sorted_from self.now.specs.now self.now.schema.now self.now.removed.now self.now.numbers.snapshot (seen_sorted sorted.old) rows.now counts.now live.now.data_files live.now.deletes) }
+        ensures { OnOk result (seen_sorted sorted.new ≡ sorted_from self.now.specs.now self.now.schema.now self.now.removed.now self.now.numbers.snapshot
+            (seen_sorted sorted.old) rows.now counts.now live.now.data_files live.now.deletes) }
     {
         let mut rest = rows;
         let mut counts = counts;

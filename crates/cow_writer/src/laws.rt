@@ -18,7 +18,9 @@ ghost use Rattle.cow_writer.specs.Reading.{CanBeRead};
 /// The new files of a change hold the rows that are left of the files that it removes, with the replacements, and then the
 /// inserted rows, in their order.
 pub fn a_copy_holds_the_rows_after()
-    ensures { (state : Loaded) (scanned : Seq ScannedFile) (decisions : Decided) (pred : Pred) (names : FileNames) (files : Files) → CanBeRead state names (pieces_in state scanned decisions) → AreRows (schema_of state.metadata).columns (written_of scanned decisions)
+    ensures { (state : Loaded) (scanned : Seq ScannedFile) (decisions : Decided) (pred : Pred) (names : FileNames)
+        (files : Files) → CanBeRead state names (pieces_in state scanned decisions)
+        → AreRows (schema_of state.metadata).columns (written_of scanned decisions)
         → data_rows state.table (parts state.metadata)
         [] (change_of state scanned decisions pred names).added_data (files_after state scanned decisions names files) ≡ Ok (written_of scanned decisions) }
 {}

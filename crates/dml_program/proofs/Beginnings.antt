@@ -47,7 +47,9 @@ module _ (table : List ℕ) (files : Files) where
 pub opened_rows : {X : Type 0} (rows : X → List (List Value)) (p : X → Parts) (v : X → ℕ) (r : Result X Status)
     (told later : Option Files) → later ≡ told → (table : List ℕ) (version : ℕ) (found : Option ℕ) → found ≡ Some version
     → ForSome told (λ files. found ≡ version_of table files)
-    → IfOk r (λ x. ForSome later (λ files. plain_version table version files ≡ Ok (rows x))) → IfOk r (λ x. ForSome later (λ files. version_at table version files ≡ Ok (p x))) → IfOk r (λ x. v x ≡ version) → IfOk r (λ x. ForSome told (λ files. opened_at table files ≡ Ok (v x, p x)))
+    → IfOk r (λ x. ForSome later (λ files. plain_version table version files ≡ Ok (rows x)))
+    → IfOk r (λ x. ForSome later (λ files. version_at table version files ≡ Ok (p x))) → IfOk r (λ x. v x ≡ version)
+    → IfOk r (λ x. ForSome told (λ files. opened_at table files ≡ Ok (v x, p x)))
 opened_rows rows p v (Err s) told later same table version found some newest readable held at = tt
 opened_rows rows p v (Ok x) told later same table version found some newest readable held at = λ files e.
     let is : version_of table files ≡ Some version = sym (newest files e) ∙ some in
@@ -132,7 +134,9 @@ module _ (table : List ℕ) (files : Files) where
         → begun_of table name files inputs ≡ Ok (record { version = version; schema = schema; script = script })
     unfolding begun_of
     begun_is bytes version p schema script given opened by_id read =
-        ap (λ (r : Result (Option (List ℕ)) Status). r >>= behind table files) given ∙ ap (λ (r : Result (ℕ × Parts) Fault). fault_as bad_table r >>= λ o. or_fault (status.TableBad Later (version_name table o.0)) (schema_with o.1.current_schema o.1.schemas) >>= λ s. script_by s bytes >>= λ t. begins o.0 s t) opened
+        ap (λ (r : Result (Option (List ℕ)) Status). r >>= behind table files) given
+        ∙ ap (λ (r : Result (ℕ × Parts) Fault). fault_as bad_table r >>= λ o. or_fault (status.TableBad Later (version_name table o.0))
+        (schema_with o.1.current_schema o.1.schemas) >>= λ s. script_by s bytes >>= λ t. begins o.0 s t) opened
         ∙ ap (λ (o : Option TableSchema). or_fault (status.TableBad Later (version_name table version)) o >>= λ s. script_by s bytes >>= λ t. begins version s t) by_id ∙ ap (λ (r : Result Script Status). r >>= λ t. begins version schema t) read
 
     -- or the fault of the table
@@ -160,7 +164,9 @@ module _ (table : List ℕ) (files : Files) where
     pub begins_open : (begun : Begun) → begun_of table name files inputs ≡ Ok begun → IsOpen table begun.schema files begun.version
     unfolding begun_of
     begins_open begun e =
-        let given = two_steps (file_given name inputs) (λ b. fault_as bad_table (opened_at table files) >>= λ o. or_fault (status.TableBad Later (version_name table o.0)) (schema_with o.1.current_schema o.1.schemas) >>= λ s. script_by s b >>= λ t. Ok (record { version = o.0; schema = s; script = t })) begun e in
+        let given = two_steps (file_given name inputs) (λ b. fault_as bad_table (opened_at table files) >>= λ o. or_fault
+        (status.TableBad Later (version_name table o.0)) (schema_with o.1.current_schema o.1.schemas) >>= λ s. script_by s b >>= λ t. Ok
+        (record { version = o.0; schema = s; script = t })) begun e in
         let opened = two_steps (fault_as bad_table (opened_at table files)) (λ o. or_fault (status.TableBad Later (version_name table o.0)) (schema_with o.1.current_schema o.1.schemas) >>= λ s. script_by s given.0 >>= λ t. Ok (record { version = o.0; schema = s; script = t })) begun given.2 in
         let by_id = two_steps (or_fault (status.TableBad Later (version_name table opened.0.0)) (schema_with opened.0.1.current_schema opened.0.1.schemas)) (λ s. script_by s given.0 >>= λ t. Ok (record { version = opened.0.0; schema = s; script = t })) begun opened.2 in
         let read = two_steps (script_by by_id.0 given.0) (λ t. Ok (record { version = opened.0.0; schema = by_id.0; script = t })) begun by_id.2 in

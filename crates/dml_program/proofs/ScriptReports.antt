@@ -76,7 +76,9 @@ adds_told table session new start files other is made adds = let same : other �
 pub ran : (table : List ℕ) (begun : Begun) (start files : Files) (was : IsOpen table begun.schema start begun.version)
     (steps told_steps : List Stepped) (ended told_ended : Option RunFault) (failed fails later : ℕ) (result : Status)
     (old new : Option (List ℕ)) (before now : ℕ)
-    → fails ≤ later → ended ≡ told_ended → told_steps ≡ steps → IsOutcome table begun.schema [] (statements_in begun.script) start begun.version (first_place 0) was files steps failed fails ended → IsTold table (names_in begun.script) files told_steps told_ended result old new before now
+    → fails ≤ later → ended ≡ told_ended → told_steps ≡ steps
+    → IsOutcome table begun.schema [] (statements_in begun.script) start begun.version (first_place 0) was files steps failed fails ended
+    → IsTold table (names_in begun.script) files told_steps told_ended result old new before now
     → AddsAtMost table (name_in begun.script) start files → IsRan table begun start files failed later result old new before now
 ran table begun start files was steps told_steps ended told_ended failed fails later result old new before now above is told outcome report adds = record {
   was = was;
@@ -353,7 +355,9 @@ nothing_writes old before now {lines = lines} none = inl (sym (nothing_more old)
 module _ {R : Type 0} (status_in : R → Status) (lines_in : R → List ℕ) (table : List ℕ) (own names : List (List ℕ)) (are : own ≡ names) (steps : List Stepped) (told : Option Files) where
   -- what a report says, where the branch can be read
   abbrev Says : R → Type 0
-  Says report = ForSome told (λ files. (rows : List (List Value)) → current_rows table (codes "main") files ≡ Ok rows → IsWhole table names files steps (status_in report) (lines_in report) ⊎ ((status_in report ≡ status.StoreFailed) × IsBroken names steps (status_in report) (lines_in report)))
+  Says report = ForSome told (λ files. (rows : List (List Value)) → current_rows table (codes "main") files ≡ Ok rows
+      → IsWhole table names files steps (status_in report) (lines_in report)
+      ⊎ ((status_in report ≡ status.StoreFailed) × IsBroken names steps (status_in report) (lines_in report)))
 
   -- with the rows that are counted
   pub wholly : (count : ℕ) (r : Result R Status) → IfOk r (λ report. status_in report ≡ status_of_steps steps)

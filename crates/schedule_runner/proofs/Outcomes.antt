@@ -146,7 +146,10 @@ module _ (table : List ℕ) (schema : TableSchema) (sources : List Source) (stat
 
       pub stopped : AllByRecursion (λ (s : Statement). branch_of s ≡ codes "main") statements → KeepsFiles now new
           → is_some (slice_get statements session.place.at) ≡ true → (more : List Stepped) (before after : ℕ) (fault : RunFault)
-          → ForSome now (λ old. (start : Files) (first : ℕ) (place : Place) (begun : IsOpen table schema start first) → (running : Running table schema sources statements start first place begun old session steps) → (files : Files) × (new ≡ Some files) × (ended : Ended table schema sources statements start first place begun files session.place more before after fault) × (ended.last ≡ running.last))
+          → ForSome now (λ old. (start : Files) (first : ℕ) (place : Place) (begun : IsOpen table schema start first)
+          → (running : Running table schema sources statements start first place begun old session steps) → (files : Files) × (new ≡ Some files)
+          × (ended : Ended table schema sources statements start first place begun files session.place more before after fault)
+          × (ended.last ≡ running.last))
           → ForSome now (λ old. (s : Statement) → slice_get statements session.place.at ≡ Some s → CannotStep table schema s old fault)
           → ((number statement : ℕ) → fault ≡ run.Unknown number statement → (number ≡ session.place.session) × (statement ≡ session.place.at))
           → ForSome initial (λ start. (current : ℕ) (begun : IsOpen table schema start current) → (files : Files) × (new ≡ Some files) × IsOutcome table schema sources statements start current place begun files more before after (Some fault))
@@ -160,6 +163,10 @@ module _ (table : List ℕ) (schema : TableSchema) (sources : List Source) (stat
               to = session.place;
               ended = left.2;
               at_hand = at_hand_of session.place fault which;
-              cause = cause_stands table schema sources statements start current place begun made.0 left.0 (keeps now new made.0 left.0 made.1 left.1 kept) made.2.last made.2.still more session.place before after fault left.2 left.3 (is_of_outside table schema hand.0 made.0 made.2.last (all_at (λ (s : Statement). branch_of s ≡ codes "main") statements session.place.at hand.0 main hand.1) made.2.still fault (why made.0 made.1 hand.0 hand.1));
+              cause = cause_stands table schema sources statements start current place begun made.0 left.0
+                  (keeps now new made.0 left.0 made.1 left.1 kept) made.2.last made.2.still more session.place before after fault left.2 left.3
+                  (is_of_outside table schema hand.0 made.0 made.2.last
+                  (all_at (λ (s : Statement). branch_of s ≡ codes "main") statements session.place.at hand.0 main hand.1) made.2.still fault
+                  (why made.0 made.1 hand.0 hand.1));
             },
           )

@@ -164,7 +164,9 @@ module _ (table : List ℕ) (schema : TableSchema) (sources : List Source) (stat
         run_stands table sources old new statements kept (steps ++ stepped ∷ []) first step.next place after.place (goes_on table sources old statements steps first running.last place session.place turned running.run (turned_by turned step.turned)) in
         let serial_rows : IsSerial schema.columns sources begun.rows (told_in statements (steps ++ stepped ∷ [])) step.still.rows =
         subst (λ (xs : List Told). IsSerial schema.columns sources begun.rows xs step.still.rows) (sym told)
-        (carries_on schema.columns sources s (all_at (λ (x : Statement). is_dml x ≡ true) statements session.place.at s changes at_hand) (all_at (λ (x : Statement). branch_of x ≡ codes "main") statements session.place.at s main at_hand) begun.rows (told_in statements steps) stepped.answer running.still.rows step.still.rows running.serial_rows
+        (carries_on schema.columns sources s (all_at (λ (x : Statement). is_dml x ≡ true) statements session.place.at s changes at_hand)
+        (all_at (λ (x : Statement). branch_of x ≡ codes "main") statements session.place.at s main at_hand) begun.rows
+        (told_in statements steps) stepped.answer running.still.rows step.still.rows running.serial_rows
         (subst (λ (rows : List (List Value)). LeavesRows sources schema.columns s stepped.answer rows step.still.rows) (rows_once table schema old running.last step.was running.still) step.rows)) in
         record {
           last = step.next;
@@ -201,7 +203,9 @@ module _ (table : List ℕ) (schema : TableSchema) (sources : List Source) (stat
                 saw = flight.1.saw;
                 next = flight.1.next;
                 serial_rows =
-                    carries_on schema.columns sources s (all_at (λ (x : Statement). is_dml x ≡ true) statements session.place.at s changes at_hand) (all_at (λ (x : Statement). branch_of x ≡ codes "main") statements session.place.at s main at_hand) begun.rows (told_in statements steps) (Some (answer.Committed 0)) running.still.rows flight.1.next.rows running.serial_rows
+                    carries_on schema.columns sources s (all_at (λ (x : Statement). is_dml x ≡ true) statements session.place.at s changes at_hand)
+                    (all_at (λ (x : Statement). branch_of x ≡ codes "main") statements session.place.at s main at_hand) begun.rows
+                    (told_in statements steps) (Some (answer.Committed 0)) running.still.rows flight.1.next.rows running.serial_rows
                     (subst (λ (rows : List (List Value)). IsCarriedOut sources schema.columns s rows flight.1.next.rows) (rows_once table schema old running.last flight.1.was running.still) flight.1.rows);
               },
             ))

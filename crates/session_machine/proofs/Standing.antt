@@ -43,14 +43,25 @@ module _ (now later : Files) (kept : KeepsFiles (Some now) (Some later)) (table 
   depended_stands : (parts : Parts) (head : BranchState) → Stands now later kept (λ files. depended_on table sources s files parts head)
   depended_stands parts head x e =
       stands_then now later kept (λ files. current_schema parts) (λ schema files. scanned_at table parts (filter_of (length schema.columns) s) (data_files_of head) files >>= λ scanned. Ok (map entry_of scanned)) (λ y h. h)
-      (λ schema. stands_then now later kept (λ files. scanned_at table parts (filter_of (length schema.columns) s) (data_files_of head) files) (λ scanned files. Ok (map entry_of scanned)) (scan_stands now later kept table parts (filter_of (length schema.columns) s) (data_files_of head)) (λ scanned y h. h)) x e
+      (λ schema. stands_then now later kept (λ files. scanned_at table parts (filter_of (length schema.columns) s) (data_files_of head) files)
+      (λ scanned files. Ok (map entry_of scanned)) (scan_stands now later kept table parts (filter_of (length schema.columns) s)
+      (data_files_of head)) (λ scanned y h. h)) x e
 
   verdict_stands : (planned version : ℕ) → Stands now later kept (λ files. verdict_at table sources s files planned version)
   unfolding verdict_at
   verdict_stands planned version x e =
-      stands_then now later kept (λ files. version_at table planned files) (λ base_parts files. branch_at table base_parts (branch_of s) files >>= λ base. depended_on table sources s files base_parts base >>= λ depended. version_at table version files >>= λ parts. branch_at table parts (branch_of s) files >>= λ head. Ok (verdict (plan_by planned base_parts.properties s) depended (data_files_of base) head)) (version_stands now later kept table planned)
-      (λ base_parts. stands_then now later kept (λ files. branch_at table base_parts (branch_of s) files) (λ base files. depended_on table sources s files base_parts base >>= λ depended. version_at table version files >>= λ parts. branch_at table parts (branch_of s) files >>= λ head. Ok (verdict (plan_by planned base_parts.properties s) depended (data_files_of base) head)) (branch_stands now later kept table base_parts (branch_of s))
-      (λ base. stands_then now later kept (λ files. depended_on table sources s files base_parts base) (λ depended files. version_at table version files >>= λ parts. branch_at table parts (branch_of s) files >>= λ head. Ok (verdict (plan_by planned base_parts.properties s) depended (data_files_of base) head)) (depended_stands base_parts base)
+      stands_then now later kept (λ files. version_at table planned files)
+      (λ base_parts files. branch_at table base_parts
+      (branch_of s) files >>= λ base. depended_on table sources s files base_parts base >>= λ depended. version_at table version files >>= λ parts. branch_at table parts
+      (branch_of s) files >>= λ head. Ok (verdict (plan_by planned base_parts.properties s) depended (data_files_of base) head))
+      (version_stands now later kept table planned)
+      (λ base_parts. stands_then now later kept (λ files. branch_at table base_parts (branch_of s) files)
+      (λ base files. depended_on table sources s files base_parts base >>= λ depended. version_at table version files >>= λ parts. branch_at table parts
+      (branch_of s) files >>= λ head. Ok (verdict (plan_by planned base_parts.properties s) depended (data_files_of base) head))
+      (branch_stands now later kept table base_parts (branch_of s))
+      (λ base. stands_then now later kept (λ files. depended_on table sources s files base_parts base)
+      (λ depended files. version_at table version files >>= λ parts. branch_at table parts (branch_of s) files >>= λ head. Ok
+      (verdict (plan_by planned base_parts.properties s) depended (data_files_of base) head)) (depended_stands base_parts base)
       (λ depended. stands_then now later kept (λ files. version_at table version files) (λ parts files. branch_at table parts (branch_of s) files >>= λ head. Ok (verdict (plan_by planned base_parts.properties s) depended (data_files_of base) head)) (version_stands now later kept table version)
       (λ parts. stands_then now later kept (λ files. branch_at table parts (branch_of s) files) (λ head files. Ok (verdict (plan_by planned base_parts.properties s) depended (data_files_of base) head)) (branch_stands now later kept table parts (branch_of s)) (λ head y h. h))))) x e
 

@@ -125,7 +125,9 @@ module _ (sources : List Source) (s : Statement) where
 
 -- ---- of a branch whose files were scanned by the statement's filter
 
-module _ (table : List ℕ) (p : Parts) (files : Files) (sources : List Source) (s : Statement) (width : ℕ) (entries : List Entry) (scanned : List ScannedFile) (rows : List (List Value)) (is : scanned_at table p (filter_of width s) entries files ≡ Ok scanned) (found : data_rows table p [] entries files ≡ Ok rows) (wide : IsTrue (are_wide width rows)) where
+module _ (table : List ℕ) (p : Parts) (files : Files) (sources : List Source) (s : Statement) (width : ℕ) (entries : List Entry)
+    (scanned : List ScannedFile) (rows : List (List Value)) (is : scanned_at table p (filter_of width s) entries files ≡ Ok scanned)
+    (found : data_rows table p [] entries files ≡ Ok rows) (wide : IsTrue (are_wide width rows)) where
   abbrev pred : Pred
   pred = filter_of width s
 

@@ -83,7 +83,9 @@ pub version_missing : (table : List ℕ) (schema : TableSchema) (sources : List 
 version_missing table schema sources s files current session was has prepared made =
     subst (λ (p : Prepared). map.get files p.name ≡ None) (same_version has.prepared prepared session.prepared has.made made) (is_missing table schema sources s files current session was has)
 
-module _ (table : List ℕ) (schema : TableSchema) (sources : List Source) (s : Statement) (files : Files) (current : ℕ) (session : Session) (was : IsOpen table schema files current) (has : HasPrepared table schema sources s files session) (main : branch_of s ≡ codes "main") (old new : Option Files) (told : old ≡ Some files) (before after : ℕ) (swaps : session.place.phase ≡ phase.Swap) where
+module _ (table : List ℕ) (schema : TableSchema) (sources : List Source) (s : Statement) (files : Files) (current : ℕ) (session : Session)
+    (was : IsOpen table schema files current) (has : HasPrepared table schema sources s files session) (main : branch_of s ≡ codes "main")
+    (old new : Option Files) (told : old ≡ Some files) (before after : ℕ) (swaps : session.place.phase ≡ phase.Swap) where
   abbrev later : Files
   later = swapped has.prepared.name has.prepared.bytes files
 

@@ -42,7 +42,9 @@ schema_is : (f : LoadFault) (found : Option TableSchema) (schema other : TableSc
 schema_is f (Some s) schema other e = cc
 schema_is f None schema other e = absurd cc
 
-module _ (table : List ℕ) (schema : TableSchema) (sources : List Source) (s : Statement) (files later : Files) (current : ℕ) (pending : Pending) (prepared : Prepared) (was : IsOpen table schema files current) (main : branch_of s ≡ codes "main") (is : IsSwapping table schema sources s files pending prepared)
+module _ (table : List ℕ) (schema : TableSchema) (sources : List Source) (s : Statement) (files later : Files) (current : ℕ) (pending : Pending)
+    (prepared : Prepared) (was : IsOpen table schema files current) (main : branch_of s ≡ codes "main")
+    (is : IsSwapping table schema sources s files pending prepared)
     (stands : map.get later prepared.name ≡ Some prepared.bytes) (keeps : KeepsFiles (Some files) (Some later)) (others : (q : List ℕ) → 0 < version_of_name (version_prefix table) q → q ≢ prepared.name → map.get later q ≡ map.get files q) where
   abbrev base : State
   base = pending.base

@@ -160,7 +160,11 @@ module _ (table : List ℕ) (schema : TableSchema) (sources : List Source) (s : 
       }
 
 -- the step by what comes of the plan
-module _ (table : List ℕ) (schema : TableSchema) (sources : List Source) (s : Statement) (main : branch_of s ≡ codes "main") (old : Files) (current : ℕ) (is : IsOpen table schema old current) (place : Place) (session : Session) (stepped : Stepped) (plans : place.phase ≡ phase.Plan) (names after : Names) (new : Option Files) (named : AreNames names) (room : names.next < 2 ^ 126) (few : after.next ≤ names.next + 2 ^ 64) (free : NoneFrom table names.run names.session names.next old) (kept : KeepsFiles (Some old) new) (others : PutsDataFiles table names (Some old) new) where
+module _ (table : List ℕ) (schema : TableSchema) (sources : List Source) (s : Statement) (main : branch_of s ≡ codes "main") (old : Files)
+    (current : ℕ) (is : IsOpen table schema old current) (place : Place) (session : Session) (stepped : Stepped) (plans : place.phase ≡ phase.Plan)
+    (names after : Names) (new : Option Files) (named : AreNames names) (room : names.next < 2 ^ 126) (few : after.next ≤ names.next + 2 ^ 64)
+    (free : NoneFrom table names.run names.session names.next old) (kept : KeepsFiles (Some old) new)
+    (others : PutsDataFiles table names (Some old) new) where
   abbrev Steps : Type 0
   Steps = (later : Files) × (new ≡ Some later) × IsStep table schema sources s old later current place session stepped
 

@@ -8,7 +8,9 @@ use Rattle.table_names.specs.Versions.{version_of_name, version_prefix}
 use Rattle.table_state.proofs.CallerLemmas.{rows_of_branch_stand, version_stands}
 use Rattle.session_steps.specs.Open.{IsOpen}
 
-module _ (table : List ℕ) (schema : TableSchema) (files later : Files) (current : ℕ) (was : IsOpen table schema files current) (kept : KeepsFiles (Some files) (Some later)) (same : (name : List ℕ) → 0 < version_of_name (version_prefix table) name → map.get later name ≡ map.get files name) where
+module _ (table : List ℕ) (schema : TableSchema) (files later : Files) (current : ℕ) (was : IsOpen table schema files current)
+    (kept : KeepsFiles (Some files) (Some later)) (same : (name : List ℕ) → 0 < version_of_name (version_prefix table) name
+    → map.get later name ≡ map.get files name) where
   abbrev still : IsOpen table schema later current
   still = record {
     newest = same_version table files later same ∙ was.newest;

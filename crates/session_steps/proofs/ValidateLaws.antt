@@ -140,7 +140,9 @@ module _ (table : List ℕ) (schema : TableSchema) (sources : List Source) (s : 
 
   -- ---- where it is validated
 
-  module _ (new : Files) (names after : Names) (now : ℤ) (validated : Validated) (is : IsValidated pending.plan pending.change (data_files_of base.head) names now table old (Some new) after validated) (others : PutsManifests table names (Some old) (Some new)) (kept : KeepsFiles (Some old) (Some new)) where
+  module _ (new : Files) (names after : Names) (now : ℤ) (validated : Validated)
+      (is : IsValidated pending.plan pending.change (data_files_of base.head) names now table old (Some new) after validated)
+      (others : PutsManifests table names (Some old) (Some new)) (kept : KeepsFiles (Some old) (Some new)) where
     abbrev verdict_is : Said
     verdict_is = verdict pending.plan pending.change.depended (data_files_of base.head) is.head.head
 
@@ -262,7 +264,9 @@ module _ (table : List ℕ) (schema : TableSchema) (sources : List Source) (s : 
 one_pending : (a b : Pending) (o : Option Pending) → o ≡ Some a → o ≡ Some b → a ≡ b
 one_pending a b o h k = cc
 
-module _ (table : List ℕ) (schema : TableSchema) (sources : List Source) (s : Statement) (old : Files) (current : ℕ) (before : Session) (was : IsOpen table schema old current) (main : branch_of s ≡ codes "main") (has : HasPending table schema sources s old before) (pending : Pending) (held : before.pending ≡ Some pending) where
+module _ (table : List ℕ) (schema : TableSchema) (sources : List Source) (s : Statement) (old : Files) (current : ℕ) (before : Session)
+    (was : IsOpen table schema old current) (main : branch_of s ≡ codes "main") (has : HasPending table schema sources s old before)
+    (pending : Pending) (held : before.pending ≡ Some pending) where
   same_pending : has.pending ≡ pending
   same_pending = one_pending has.pending pending before.pending has.held held
 

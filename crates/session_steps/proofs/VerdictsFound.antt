@@ -101,8 +101,12 @@ module _ (table : List ℕ) (schema : TableSchema) (sources : List Source) (s : 
     pub verdict_found : verdict_at table sources s files base.version current ≡ Ok (verdict pending.plan pending.change.depended (data_files_of base.head) head.head)
     unfolding verdict_at
     verdict_found =
-        ap (λ (r : Result Parts LoadFault). r >>= λ q. branch_at table q (branch_of s) files >>= λ was. depended_on table sources s files q was >>= λ depended. version_at table current files >>= λ now. branch_at table now (branch_of s) files >>= λ found. Ok (verdict (plan_by base.version q.properties s) depended (data_files_of was) found)) (version_is table (branch_of s) base.version files base stands)
-        ∙ ap (λ (r : Result BranchState LoadFault). r >>= λ was. depended_on table sources s files p was >>= λ depended. version_at table current files >>= λ now. branch_at table now (branch_of s) files >>= λ found. Ok (verdict (plan_by base.version p.properties s) depended (data_files_of was) found)) stands.head
+        ap (λ (r : Result Parts LoadFault). r >>= λ q. branch_at table q
+        (branch_of s) files >>= λ was. depended_on table sources s files q was >>= λ depended. version_at table current files >>= λ now. branch_at table now
+        (branch_of s) files >>= λ found. Ok (verdict (plan_by base.version q.properties s) depended (data_files_of was) found))
+        (version_is table (branch_of s) base.version files base stands)
+        ∙ ap (λ (r : Result BranchState LoadFault). r >>= λ was. depended_on table sources s files p was >>= λ depended. version_at table current files >>= λ now. branch_at table now
+        (branch_of s) files >>= λ found. Ok (verdict (plan_by base.version p.properties s) depended (data_files_of was) found)) stands.head
         ∙ ap (λ (r : Result (List Entry) LoadFault). r >>= λ depended. version_at table current files >>= λ now. branch_at table now (branch_of s) files >>= λ found. Ok (verdict (plan_by base.version p.properties s) depended (data_files_of base.head) found)) depended_is
         ∙ ap (λ (r : Result Parts LoadFault). r >>= λ now. branch_at table now (branch_of s) files >>= λ found. Ok (verdict (plan_by base.version p.properties s) (map entry_of scanned) (data_files_of base.head) found)) (version_is table (branch_of s) current files head again)
         ∙ ap (λ (r : Result BranchState LoadFault). r >>= λ found. Ok (verdict (plan_by base.version p.properties s) (map entry_of scanned) (data_files_of base.head) found)) again.head

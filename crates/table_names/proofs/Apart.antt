@@ -92,7 +92,9 @@ module _ (table session bytes : List ℕ) (run n : ℕ) (files : Files) (none : 
   pub after_metadata : NoneFrom table run session (n + 1) (with_file (metadata_name table run session n) bytes files)
   after_metadata = record {
     data_free = λ m above m_fits. stays files (metadata_name table run session n) bytes (data_name table run session m) (λ e. folders_apart table (named run session m ending) (named run session n ending) e) ∙ none.data_free m (omega arith) m_fits;
-    metadata_free = λ m above m_fits. stays files (metadata_name table run session n) bytes (metadata_name table run session m) (λ e. later_apart m above m_fits (text_in table (codes "/metadata/r") (named run session m ending) (named run session n ending) e)) ∙ none.metadata_free m (omega arith) m_fits;
+    metadata_free = λ m above m_fits. stays files (metadata_name table run session n) bytes (metadata_name table run session m)
+        (λ e. later_apart m above m_fits (text_in table (codes "/metadata/r") (named run session m ending) (named run session n ending) e))
+        ∙ none.metadata_free m (omega arith) m_fits;
   }
 
 module _ (table session other bytes : List ℕ) (run from n : ℕ) (files : Files) (f : HasNoHyphen session) (s : HasNoHyphen other) (differ : session ≢ other) (none : NoneFrom table run session from files) where
@@ -105,7 +107,9 @@ module _ (table session other bytes : List ℕ) (run from n : ℕ) (files : File
   pub beside_metadata : NoneFrom table run session from (with_file (metadata_name table run other n) bytes files)
   beside_metadata = record {
     data_free = λ m above m_fits. stays files (metadata_name table run other n) bytes (data_name table run session m) (λ e. folders_apart table (named run session m ending) (named run other n ending) e) ∙ none.data_free m above m_fits;
-    metadata_free = λ m above m_fits. stays files (metadata_name table run other n) bytes (metadata_name table run session m) (λ e. differ (sessions_apart run session other m n f s (text_in table (codes "/metadata/r") (named run session m ending) (named run other n ending) e))) ∙ none.metadata_free m above m_fits;
+    metadata_free = λ m above m_fits. stays files (metadata_name table run other n) bytes (metadata_name table run session m)
+        (λ e. differ (sessions_apart run session other m n f s
+        (text_in table (codes "/metadata/r") (named run session m ending) (named run other n ending) e))) ∙ none.metadata_free m above m_fits;
   }
 
 -- names of data files with other numbers

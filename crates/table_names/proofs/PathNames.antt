@@ -121,4 +121,17 @@ module _ (session : List ℕ) (run n : ℕ) (text : IsUtf8 session) (plain : Has
 
   pub metadata_is : (table location : List ℕ)
       → name_of table location (metadata_name (folder_of location) run session n) ≡ Some (metadata_name table run session n)
-  metadata_is table location = named_in table location (codes "metadata") (All-from_recursion Plain (codes "metadata") (λ e. omega arith, (λ e. omega arith, (λ e. omega arith, (λ e. omega arith, (λ e. omega arith, (λ e. omega arith, (λ e. omega arith, (λ e. omega arith, tt))))))))) text_metadata refl
+  metadata_is table location = named_in table location (codes "metadata")
+      (All-from_recursion Plain (codes "metadata") (
+        λ e. omega arith,
+        (
+          λ e. omega arith,
+          (
+            λ e. omega arith,
+            (
+              λ e. omega arith,
+              (λ e. omega arith, (λ e. omega arith, (λ e. omega arith, (λ e. omega arith, tt)))),
+            ),
+          ),
+        ),
+      )) text_metadata refl

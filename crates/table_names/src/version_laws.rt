@@ -19,7 +19,8 @@ pub fn the_names_of_versions_say_which_is_current()
 
 /// The next version is the current one once its name is there, and no other name of a version changes.
 pub fn the_next_version_is_current_once_it_is_there()
-    ensures { (table : Seq ℕ) (old new : Files) (current : ℕ) (bytes : Seq ℕ) → version_of table old ≡ Some current → current + 1 < 2 ^ 32 → map.get new (version_name table (current + 1)) ≡ Some bytes
+    ensures { (table : Seq ℕ) (old new : Files) (current : ℕ) (bytes : Seq ℕ) → version_of table old ≡ Some current
+        → current + 1 < 2 ^ 32 → map.get new (version_name table (current + 1)) ≡ Some bytes
         → ((name : Seq ℕ) → 0 < version_of_name (version_prefix table) name → name ≢ version_name table (current + 1)
         → map.get new name ≡ map.get old name) → version_of table new ≡ Some (current + 1) }
 {}

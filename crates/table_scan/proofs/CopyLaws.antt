@@ -259,7 +259,9 @@ module _ (itself : (entry : Entry) → same_file entry entry ≡ true) (paths : 
         by false is = none_any (λ (one : ScannedFile). changes_file sources s one && same_file one.entry file.entry) all (λ one within. apart one within is (same_file one.entry file.entry) refl)
 
     abbrev Leaves : ℕ → List Entry → List ScannedFile → List (List Value) → Type 0
-    Leaves width entries scanned rows = (rest : List (List Value)) × (data_rows table parts [] (without (removed_of scanned (decisions_of sources s width scanned rows).rows) entries) files ≡ Ok rest) × SameBag (rest ++ written_of scanned (decisions_of sources s width scanned rows)) (rows_after width sources s rows)
+    Leaves width entries scanned rows = (rest : List (List Value))
+        × (data_rows table parts [] (without (removed_of scanned (decisions_of sources s width scanned rows).rows) entries) files ≡ Ok rest)
+        × SameBag (rest ++ written_of scanned (decisions_of sources s width scanned rows)) (rows_after width sources s rows)
 
     of_files : (width : ℕ) (all scanned others : List ScannedFile) → SameBag all (scanned ++ others)
         → others_missed sources s others → AreRead table parts pred files all → AreRead table parts pred files scanned

@@ -75,7 +75,9 @@ module _ (table : List ℕ) (p : Parts) (pred : Pred) (files : Files) where
 
 -- ---- what they decide
 
-module _ (table : List ℕ) (p : Parts) (files : Files) (s : Statement) (width : ℕ) (entries : List Entry) (scanned : List ScannedFile) (rows : List (List Value)) (is : scanned_at table p (filter_of width s) entries files ≡ Ok scanned) (found : data_rows table p [] entries files ≡ Ok rows) (wide : IsTrue (are_wide width rows)) where
+module _ (table : List ℕ) (p : Parts) (files : Files) (s : Statement) (width : ℕ) (entries : List Entry) (scanned : List ScannedFile)
+    (rows : List (List Value)) (is : scanned_at table p (filter_of width s) entries files ≡ Ok scanned)
+    (found : data_rows table p [] entries files ≡ Ok rows) (wide : IsTrue (are_wide width rows)) where
   abbrev test : List Value → Bool
   test = holds_on (filter_of width s)
 
@@ -107,7 +109,9 @@ module _ (table : List ℕ) (p : Parts) (files : Files) (s : Statement) (width :
   pub hits_decide : (sources : List Source) → decisions_of sources s width scanned rows ≡ decisions_of sources s width scanned (hit_rows scanned)
   hits_decide sources = ap (λ made. record { rows = map (decision_for sources s) (hit_rows scanned); inserted = map row_made made }) (hits_insert sources)
 
-module _ (table : List ℕ) (p : Parts) (files : Files) (s : Statement) (columns : List Column) (entries : List Entry) (scanned : List ScannedFile) (rows : List (List Value)) (is : scanned_at table p (filter_of (length columns) s) entries files ≡ Ok scanned) (found : data_rows table p [] entries files ≡ Ok rows) (wide : IsTrue (are_wide (length columns) rows)) where
+module _ (table : List ℕ) (p : Parts) (files : Files) (s : Statement) (columns : List Column) (entries : List Entry) (scanned : List ScannedFile)
+    (rows : List (List Value)) (is : scanned_at table p (filter_of (length columns) s) entries files ≡ Ok scanned)
+    (found : data_rows table p [] entries files ≡ Ok rows) (wide : IsTrue (are_wide (length columns) rows)) where
   pub hits_refuse : (sources : List Source) → refusal columns sources s rows ≡ refusal columns sources s (hit_rows scanned)
   hits_refuse sources =
       local_refusal columns sources s rows (hit_rows scanned) wide (hits_wide table p files s (length columns) entries scanned rows is found wide) (same_hits table p files s (length columns) entries scanned rows is found wide)

@@ -18,7 +18,9 @@ module _ (now later : Files) (kept : KeepsFiles (Some now) (Some later)) where
       → Stands now later kept (λ files. files_at table parts pred earlier entries files)
   unfolding files_at
   scanned_files_stand table parts pred earlier [] x e = e
-  scanned_files_stand table parts pred earlier (entry ∷ entries) x e = stands_then now later kept (λ files. file_at table parts pred entry files) (λ file files. files_at table parts pred (earlier ++ file ∷ []) entries files) (scanned_file_stands table parts pred entry) (λ file. scanned_files_stand table parts pred (earlier ++ file ∷ []) entries) x e
+  scanned_files_stand table parts pred earlier (entry ∷ entries) x e = stands_then now later kept (λ files. file_at table parts pred entry files)
+      (λ file files. files_at table parts pred (earlier ++ file ∷ []) entries files) (scanned_file_stands table parts pred entry)
+      (λ file. scanned_files_stand table parts pred (earlier ++ file ∷ []) entries) x e
 
   pub scan_stands : (table : List ℕ) (parts : Parts) (pred : Pred) (entries : List Entry)
       → Stands now later kept (λ files. scanned_at table parts pred entries files)

@@ -20,7 +20,10 @@ ghost use Rattle.table_scan.specs.Decisions.{decisions_of};
 /// The rows of the data files that are not removed, with the rows that are written, are as a bag the rows that the statement
 /// leaves: of rows as wide as the table, and files scanned by the statement's filter.
 pub fn copies_do_what_the_statement_does()
-    ensures { (table : Seq ℕ) (parts : Parts) (entries : Seq Entry) (files : Files) (scanned : Seq ScannedFile) (sources : Seq Source) (s : Statement) (width : ℕ) (rows : Seq (Seq Value)) → scanned_at table parts (filter_of width s) entries files ≡ Ok scanned → data_rows table parts [] entries files ≡ Ok rows → IsTrue (are_wide width rows)
+    ensures { (table : Seq ℕ) (parts : Parts) (entries : Seq Entry) (files : Files) (scanned : Seq ScannedFile)
+        (sources : Seq Source) (s : Statement) (width : ℕ) (rows : Seq (Seq Value))
+        → scanned_at table parts (filter_of width s) entries files ≡ Ok scanned
+        → data_rows table parts [] entries files ≡ Ok rows → IsTrue (are_wide width rows)
         → (rest : Seq (Seq Value))
         × (data_rows table parts [] (without (removed_of scanned (decisions_of sources s width scanned rows).rows) entries) files ≡ Ok rest)
         × SameBag (rest ++ written_of scanned (decisions_of sources s width scanned rows)) (rows_after width sources s rows) }

@@ -23,11 +23,20 @@ ghost use Rattle.table_scan.specs.Decisions.{decisions_of, hit_rows};
 /// What a statement inserts into a branch and decides of its rows, and why it is refused there, is so by the rows of its data
 /// files that are hit, where the files were scanned by its filter.
 pub fn the_hits_decide_for_the_branch()
-    ensures inserted { (table : Seq ℕ) (parts : Parts) (width : ℕ) (sources : Seq Source) (s : Statement) (entries : Seq Entry) (files : Files) (scanned : Seq ScannedFile) (rows : Seq (Seq Value)) → scanned_at table parts (filter_of width s) entries files ≡ Ok scanned → data_rows table parts [] entries files ≡ Ok rows → IsTrue (are_wide width rows)
+    ensures inserted { (table : Seq ℕ) (parts : Parts) (width : ℕ) (sources : Seq Source) (s : Statement) (entries : Seq Entry)
+        (files : Files) (scanned : Seq ScannedFile) (rows : Seq (Seq Value))
+        → scanned_at table parts (filter_of width s) entries files ≡ Ok scanned
+        → data_rows table parts [] entries files ≡ Ok rows → IsTrue (are_wide width rows)
         → insertions width sources s rows ≡ insertions width sources s (hit_rows scanned) }
-    ensures decided { (table : Seq ℕ) (parts : Parts) (width : ℕ) (sources : Seq Source) (s : Statement) (entries : Seq Entry) (files : Files) (scanned : Seq ScannedFile) (rows : Seq (Seq Value)) → scanned_at table parts (filter_of width s) entries files ≡ Ok scanned → data_rows table parts [] entries files ≡ Ok rows → IsTrue (are_wide width rows)
+    ensures decided { (table : Seq ℕ) (parts : Parts) (width : ℕ) (sources : Seq Source) (s : Statement) (entries : Seq Entry)
+        (files : Files) (scanned : Seq ScannedFile) (rows : Seq (Seq Value))
+        → scanned_at table parts (filter_of width s) entries files ≡ Ok scanned
+        → data_rows table parts [] entries files ≡ Ok rows → IsTrue (are_wide width rows)
         → decisions_of sources s width scanned rows ≡ decisions_of sources s width scanned (hit_rows scanned) }
-    ensures refused { (table : Seq ℕ) (parts : Parts) (columns : Seq Column) (sources : Seq Source) (s : Statement) (entries : Seq Entry) (files : Files) (scanned : Seq ScannedFile) (rows : Seq (Seq Value)) → scanned_at table parts (filter_of (length columns) s) entries files ≡ Ok scanned → data_rows table parts [] entries files ≡ Ok rows → IsTrue (are_wide (length columns) rows)
+    ensures refused { (table : Seq ℕ) (parts : Parts) (columns : Seq Column) (sources : Seq Source) (s : Statement)
+        (entries : Seq Entry) (files : Files) (scanned : Seq ScannedFile) (rows : Seq (Seq Value))
+        → scanned_at table parts (filter_of (length columns) s) entries files ≡ Ok scanned
+        → data_rows table parts [] entries files ≡ Ok rows → IsTrue (are_wide (length columns) rows)
         → refusal columns sources s rows ≡ refusal columns sources s (hit_rows scanned) }
 {}
 
@@ -39,6 +48,8 @@ pub fn hit_rows_are_of_the_columns()
 /// The rows that a statement makes are rows of the columns, where its expressions fit them, the rows of the scanned files and
 /// of the sources are rows of theirs, and it is not refused.
 pub fn what_is_decided_is_of_the_columns()
-    ensures { (columns : Seq Column) (sources : Seq Source) (s : Statement) (scanned : Seq ScannedFile) → IsTrue (list_all source_has_rows sources) → IsTrue (statement_fits columns sources s) → AreRows columns (rows_in_all scanned) → refusal columns sources s (hit_rows scanned) ≡ None
+    ensures { (columns : Seq Column) (sources : Seq Source) (s : Statement) (scanned : Seq ScannedFile)
+        → IsTrue (list_all source_has_rows sources) → IsTrue (statement_fits columns sources s)
+        → AreRows columns (rows_in_all scanned) → refusal columns sources s (hit_rows scanned) ≡ None
         → AreRows columns (made_of (decisions_of sources s (length columns) scanned (hit_rows scanned))) }
 {}

@@ -97,7 +97,9 @@ returns-in-Ok-write-clause-outcome g c files told =
       c.requires.there,
       is_ready sources s names base files (g.S.Store.files c.scan_hits.new.store) (g.S.Store.files c.write.new.store) c.write.new.names c.in-Ok-write.pending scanned (c.scan_hits.ensures.files ∙ told) c.in-Ok-write.ensures.read c.in-Ok-write.ensures.fixed
           (record { loaded = c.requires.loaded files told; reads = c.in-Ok.ensures.ok files told; accepted = ap (λ (cs : List Column). refusal cs sources s (hit_rows scanned)) columns ∙ none })
-          (c.in-Ok-write.ensures.change ∙ ap (λ (pred : Pred). change_of base c.as_slice-scanned.result.now decisions pred names) filter ∙ ap (λ (sc : List ScannedFile). change_of base sc decisions (filter_on base s) names) same ∙ ap (λ (d : Decisions). change_of base scanned d (filter_on base s) names) decided)
+          (c.in-Ok-write.ensures.change ∙ ap (λ (pred : Pred). change_of base c.as_slice-scanned.result.now decisions pred names) filter
+          ∙ ap (λ (sc : List ScannedFile). change_of base sc decisions (filter_on base s) names) same
+          ∙ ap (λ (d : Decisions). change_of base scanned d (filter_on base s) names) decided)
           (subst (λ (d : Decisions). AreRows (columns_of base) (written_of scanned d)) decided (written_fit base schema sources s scanned decisions c.requires.schema c.requires.fits c.in-Ok.ensures.rows is none))
           (two (λ sc d. AreShort (columns_of base) (pieces_in base sc d)) c.as_slice-scanned.result.now scanned decisions (decided_by base scanned sources s) same decided c.in-Ok-write.ensures.short)
           (two (λ sc d. g.S.Store.files c.write.new.store ≡ option_map (files_after base sc d names) (g.S.Store.files c.scan_hits.new.store)) c.as_slice-scanned.result.now scanned decisions (decided_by base scanned sources s) same decided c.in-Ok-write.ensures.files)

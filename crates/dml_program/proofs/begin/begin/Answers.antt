@@ -4,7 +4,9 @@ use Rattle.dml_program.proofs.begin.begin.Goals as goal
 
 pub returns-clause-found : goal.returns-clause-found
 returns-clause-found g c files told inputs given =
-    begun_is c.args.table.now files c.args.script.now inputs c.in_ok-bytes.bytes c.in-Ok.opened.version (parts c.in-Ok.opened.metadata) c.in_ok-schema.schema c.in_ok-script.script (c.in_ok-bytes.ensures.found inputs given) (c.in-Ok.ensures.opened files told) c.in_ok-schema.ensures.found c.in_ok-script.ensures.found
+    begun_is c.args.table.now files c.args.script.now inputs c.in_ok-bytes.bytes c.in-Ok.opened.version
+    (parts c.in-Ok.opened.metadata) c.in_ok-schema.schema c.in_ok-script.script (c.in_ok-bytes.ensures.found inputs given)
+    (c.in-Ok.ensures.opened files told) c.in_ok-schema.ensures.found c.in_ok-script.ensures.found
 
 pub returns-clause-open : goal.returns-clause-open
 returns-clause-open g c files told = opens c.args.table.now files c.in-Ok.opened.version (parts c.in-Ok.opened.metadata) c.in_ok-schema.schema (c.in-Ok.ensures.opened files told) c.in_ok-schema.ensures.found

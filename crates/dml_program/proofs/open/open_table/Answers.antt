@@ -7,4 +7,5 @@ pub returns-in-Ok-Some-clause-refused : goal.returns-in-Ok-Some-clause-refused
 returns-in-Ok-Some-clause-refused g c = refused_rows c.plain_version.result _ _ c.current_version.ensures.files c.args.table.now _ _ c.in-Ok-Some.field-0-is c.in-Ok-Some.ensures.version c.plain_version.ensures.refused
 
 pub returns-in-Ok-Some-clause-opened : goal.returns-in-Ok-Some-clause-opened
-returns-in-Ok-Some-clause-opened g c = opened_rows (λ opened. opened.rows.items) (λ opened. parts opened.metadata) (λ opened. opened.version) c.plain_version.result _ _ c.current_version.ensures.files c.args.table.now _ _ c.in-Ok-Some.field-0-is c.in-Ok-Some.ensures.version c.plain_version.ensures.found c.plain_version.ensures.metadata c.plain_version.ensures.version
+returns-in-Ok-Some-clause-opened g c = opened_rows (λ opened. opened.rows.items) (λ opened. parts opened.metadata)
+    (λ opened. opened.version) c.plain_version.result _ _ c.current_version.ensures.files c.args.table.now _ _ c.in-Ok-Some.field-0-is c.in-Ok-Some.ensures.version c.plain_version.ensures.found c.plain_version.ensures.metadata c.plain_version.ensures.version

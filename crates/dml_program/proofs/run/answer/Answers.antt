@@ -46,7 +46,9 @@ returns-in-Err-clause-answer g c =
 pub returns-in-Err-clause-complete : goal.returns-in-Err-clause-complete
 returns-in-Err-clause-complete g c store_kept inputs_kept out_kept =
     told_map (Some (wanted c.args.command)) (g.S.Store.files c.args.store.now) (g.I.Inputs.contents c.args.inputs.now) (g.C.Clock.time c.args.clock.now) _ _
-    (λ files answer carried. completes _ answer c.in-Err.status c.write_fault.result (g.S.Store.faults c.args.store.now) (g.S.Store.faults c.carry_out.new.store) (g.S.Store.unsettled c.carry_out.new.store) c.in-Err.ensures.kind carried c.in-Err.ensures.store inputs_kept store_kept c.write_fault.ensures.status)
+    (λ files answer carried. completes _ answer c.in-Err.status c.write_fault.result (g.S.Store.faults c.args.store.now)
+    (g.S.Store.faults c.carry_out.new.store)
+    (g.S.Store.unsettled c.carry_out.new.store) c.in-Err.ensures.kind carried c.in-Err.ensures.store inputs_kept store_kept c.write_fault.ensures.status)
     c.in-Err.ensures.refused
 
 pub returns-in-Err-clause-leaves : goal.returns-in-Err-clause-leaves

@@ -20,7 +20,9 @@ returns-in-Rows-clause-refused g c =
 pub returns-in-Rows-clause-leaves : goal.returns-in-Rows-clause-leaves
 returns-in-Rows-clause-leaves g c =
     let asks : Some (wanted c.args.command) ≡ Some (rows c.in-Rows.table.now) = ap (λ (m : Command). Some (wanted m)) c.in-Rows.is in
-    told_rows (Some (wanted c.args.command)) (g.S.Store.files c.args.store.now) (g.I.Inputs.contents c.args.inputs.now) (g.C.Clock.time c.args.clock.now) (λ files answer. LeavesAnswered answer (so_far c.rows.result) files (g.S.Store.files c.rows.new.store)) c.in-Rows.table.now asks c.rows.ensures.leaves
+    told_rows (Some (wanted c.args.command)) (g.S.Store.files c.args.store.now) (g.I.Inputs.contents c.args.inputs.now)
+    (g.C.Clock.time c.args.clock.now) (λ files answer. LeavesAnswered answer (so_far c.rows.result) files
+    (g.S.Store.files c.rows.new.store)) c.in-Rows.table.now asks c.rows.ensures.leaves
 
 -- ---- `create`
 
@@ -37,7 +39,9 @@ returns-in-Create-clause-refused g c =
 pub returns-in-Create-clause-leaves : goal.returns-in-Create-clause-leaves
 returns-in-Create-clause-leaves g c =
     let asks : Some (wanted c.args.command) ≡ Some (create c.in-Create.table.now c.in-Create.schema.now) = ap (λ (m : Command). Some (wanted m)) c.in-Create.is in
-    told_create (Some (wanted c.args.command)) (g.S.Store.files c.args.store.now) (g.I.Inputs.contents c.args.inputs.now) (g.C.Clock.time c.args.clock.now) (λ files answer. LeavesAnswered answer (so_far c.create.result) files (g.S.Store.files c.create.new.store)) c.in-Create.table.now c.in-Create.schema.now asks c.create.ensures.leaves
+    told_create (Some (wanted c.args.command)) (g.S.Store.files c.args.store.now) (g.I.Inputs.contents c.args.inputs.now)
+    (g.C.Clock.time c.args.clock.now) (λ files answer. LeavesAnswered answer (so_far c.create.result) files
+    (g.S.Store.files c.create.new.store)) c.in-Create.table.now c.in-Create.schema.now asks c.create.ensures.leaves
 
 pub returns-in-Create-clause-only_reads : goal.returns-in-Create-clause-only_reads
 returns-in-Create-clause-only_reads g c reads =

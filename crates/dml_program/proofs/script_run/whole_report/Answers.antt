@@ -5,7 +5,9 @@ use Rattle.dml_program.proofs.script_run.whole_report.Goals as goal
 
 pub returns-in-Ok-clause-report : goal.returns-in-Ok-clause-report
 returns-in-Ok-clause-report g c =
-    wholly (λ report. report.status) (λ report. report.lines.items) c.args.table.now c.as_slice-names.result.now (names_in c.args.script.now) (c.as_slice-names.ensures.value ∙ c.in_ok-names.ensures) c.args.steps.now (g.S.Store.files c.args.store.now) c.in-Ok.rows c.whole.result c.whole.ensures.status c.whole.ensures.lines c.in-Ok.ensures.counted
+    wholly (λ report. report.status) (λ report. report.lines.items) c.args.table.now c.as_slice-names.result.now (names_in c.args.script.now)
+    (c.as_slice-names.ensures.value ∙ c.in_ok-names.ensures) c.args.steps.now
+    (g.S.Store.files c.args.store.now) c.in-Ok.rows c.whole.result c.whole.ensures.status c.whole.ensures.lines c.in-Ok.ensures.counted
 
 pub returns-clause-report : goal.returns-clause-report
 returns-clause-report g c =

@@ -25,20 +25,37 @@ loop-init g c = record {
 
 pub returns-then-session-statements-clause-runs : goal.returns-then-session-statements-clause-runs
 returns-then-session-statements-clause-runs g c =
-    as_run c.args.table.now c.args.schema.now c.args.sources.now c.args.statements.now c.args.session.now.place (g.S.Store.files c.args.store.now) (g.S.Store.files c.loop.store) c.loop.steps.items c.run_of.result.steps (g.S.Store.faults c.args.store.now) (g.S.Store.faults c.loop.store) None c.run_of.result.ended c.run_of.ensures.steps c.run_of.ensures.ended
-    (finished c.args.table.now c.args.schema.now c.args.sources.now c.args.statements.now c.args.session.now.place (g.S.Store.files c.args.store.now) c.requires.open (g.S.Store.files c.loop.store) c.loop.session c.loop.steps.items c.loop.invariant.running (g.S.Store.faults c.args.store.now) (g.S.Store.faults c.loop.store) (slice_get_past c.args.statements.now c.loop.session.place.at (omega (arith, c.if-session-statements.true))))
+    as_run c.args.table.now c.args.schema.now c.args.sources.now c.args.statements.now c.args.session.now.place (g.S.Store.files c.args.store.now)
+    (g.S.Store.files c.loop.store) c.loop.steps.items c.run_of.result.steps (g.S.Store.faults c.args.store.now)
+    (g.S.Store.faults c.loop.store) None c.run_of.result.ended c.run_of.ensures.steps c.run_of.ensures.ended
+    (finished c.args.table.now c.args.schema.now c.args.sources.now c.args.statements.now c.args.session.now.place
+    (g.S.Store.files c.args.store.now) c.requires.open (g.S.Store.files c.loop.store) c.loop.session c.loop.steps.items c.loop.invariant.running
+    (g.S.Store.faults c.args.store.now) (g.S.Store.faults c.loop.store)
+    (slice_get_past c.args.statements.now c.loop.session.place.at (omega (arith, c.if-session-statements.true))))
 
 pub go_on-requires-clause-at_hand : goal.go_on-requires-clause-at_hand
 go_on-requires-clause-at_hand g c = there c.args.statements.now c.loop.session.place.at (omega (arith, c.if-session-statements.false))
 
 pub go_on-requires-clause-running : goal.go_on-requires-clause-running
-go_on-requires-clause-running g c = runs_now c.args.table.now c.args.schema.now c.args.sources.now c.args.statements.now c.args.session.now.place (g.S.Store.files c.args.store.now) c.requires.open (g.S.Store.files c.loop.store) c.loop.session c.loop.steps.items c.loop.invariant.running c.loop.invariant.told
+go_on-requires-clause-running g c = runs_now c.args.table.now c.args.schema.now c.args.sources.now c.args.statements.now c.args.session.now.place
+    (g.S.Store.files c.args.store.now) c.requires.open
+    (g.S.Store.files c.loop.store) c.loop.session c.loop.steps.items c.loop.invariant.running c.loop.invariant.told
 
 pub returns-in-Err-clause-runs : goal.returns-in-Err-clause-runs
 returns-in-Err-clause-runs g c =
-    as_run c.args.table.now c.args.schema.now c.args.sources.now c.args.statements.now c.args.session.now.place (g.S.Store.files c.args.store.now) (g.S.Store.files c.go_on.new.store) c.go_on.new.steps.items c.run_of-in-Err.result.steps (g.S.Store.faults c.args.store.now) (g.S.Store.faults c.go_on.new.store) (Some c.in-Err.fault) c.run_of-in-Err.result.ended c.run_of-in-Err.ensures.steps c.run_of-in-Err.ensures.ended
-    (outcome_then c.args.table.now c.args.schema.now c.args.sources.now c.args.statements.now c.args.session.now.place (g.S.Store.files c.args.store.now) (g.S.Store.files c.go_on.new.store) c.go_on.new.steps.items (g.S.Store.faults c.args.store.now) (g.S.Store.faults c.loop.store) (g.S.Store.faults c.go_on.new.store) (g.S.Store.faults c.go_on.new.store) (Some c.in-Err.fault) c.loop.invariant.later (omega arith)
-    (stopped c.args.table.now c.args.schema.now c.args.sources.now c.args.statements.now c.args.session.now.place (g.S.Store.files c.args.store.now) c.requires.open (g.S.Store.files c.loop.store) c.loop.session c.loop.steps.items c.loop.invariant.running (g.S.Store.files c.go_on.new.store) c.requires.statements.main c.go_on.ensures.kept (there c.args.statements.now c.loop.session.place.at (omega (arith, c.if-session-statements.false))) c.go_on.new.steps.items (g.S.Store.faults c.loop.store) (g.S.Store.faults c.go_on.new.store) c.in-Err.fault c.in-Err.ensures.ends c.in-Err.ensures.faulted
+    as_run c.args.table.now c.args.schema.now c.args.sources.now c.args.statements.now c.args.session.now.place (g.S.Store.files c.args.store.now)
+    (g.S.Store.files c.go_on.new.store) c.go_on.new.steps.items c.run_of-in-Err.result.steps (g.S.Store.faults c.args.store.now)
+    (g.S.Store.faults c.go_on.new.store)
+    (Some c.in-Err.fault) c.run_of-in-Err.result.ended c.run_of-in-Err.ensures.steps c.run_of-in-Err.ensures.ended
+    (outcome_then c.args.table.now c.args.schema.now c.args.sources.now c.args.statements.now c.args.session.now.place
+    (g.S.Store.files c.args.store.now) (g.S.Store.files c.go_on.new.store) c.go_on.new.steps.items (g.S.Store.faults c.args.store.now)
+    (g.S.Store.faults c.loop.store) (g.S.Store.faults c.go_on.new.store) (g.S.Store.faults c.go_on.new.store)
+    (Some c.in-Err.fault) c.loop.invariant.later (omega arith)
+    (stopped c.args.table.now c.args.schema.now c.args.sources.now c.args.statements.now c.args.session.now.place
+    (g.S.Store.files c.args.store.now) c.requires.open (g.S.Store.files c.loop.store) c.loop.session c.loop.steps.items c.loop.invariant.running
+    (g.S.Store.files c.go_on.new.store) c.requires.statements.main c.go_on.ensures.kept
+    (there c.args.statements.now c.loop.session.place.at (omega (arith, c.if-session-statements.false))) c.go_on.new.steps.items
+    (g.S.Store.faults c.loop.store) (g.S.Store.faults c.go_on.new.store) c.in-Err.fault c.in-Err.ensures.ends c.in-Err.ensures.faulted
     (λ number statement is. c.in-Err.ensures.at_hand number statement cc)))
 
 pub returns-in-Err-clause-others : goal.returns-in-Err-clause-others
@@ -47,7 +64,9 @@ returns-in-Err-clause-others g c =
 
 pub loop-preserved : goal.loop-preserved
 loop-preserved g c = record {
-  running = goes c.args.table.now c.args.schema.now c.args.sources.now c.args.statements.now c.args.session.now.place (g.S.Store.files c.args.store.now) c.requires.open (g.S.Store.files c.loop.store) c.loop.session c.loop.steps.items c.loop.invariant.running (g.S.Store.files c.go_on.new.store) c.go_on.new.session c.go_on.new.steps.items c.in-Ok.ensures.goes;
+  running = goes c.args.table.now c.args.schema.now c.args.sources.now c.args.statements.now c.args.session.now.place
+      (g.S.Store.files c.args.store.now) c.requires.open (g.S.Store.files c.loop.store) c.loop.session c.loop.steps.items c.loop.invariant.running
+      (g.S.Store.files c.go_on.new.store) c.go_on.new.session c.go_on.new.steps.items c.in-Ok.ensures.goes;
   shape = c.in-Ok.ensures.shape;
   named = c.go_on.ensures.named;
   session = (c.go_on.ensures.session.0 ∙ c.loop.invariant.session.0, c.go_on.ensures.session.1 ∙ c.loop.invariant.session.1);
@@ -62,4 +81,9 @@ loop-preserved g c = record {
 
 pub returns-clause-runs : goal.returns-clause-runs
 returns-clause-runs g c =
-    as_run c.args.table.now c.args.schema.now c.args.sources.now c.args.statements.now c.args.session.now.place (g.S.Store.files c.args.store.now) (g.S.Store.files c.loop.store) c.loop.steps.items c.run_of-2.result.steps (g.S.Store.faults c.args.store.now) (g.S.Store.faults c.loop.store) (Some run.Memory) c.run_of-2.result.ended c.run_of-2.ensures.steps c.run_of-2.ensures.ended (full c.args.table.now c.args.schema.now c.args.sources.now c.args.statements.now c.args.session.now.place (g.S.Store.files c.args.store.now) c.requires.open (g.S.Store.files c.loop.store) c.loop.session c.loop.steps.items c.loop.invariant.running (g.S.Store.faults c.args.store.now) (g.S.Store.faults c.loop.store))
+    as_run c.args.table.now c.args.schema.now c.args.sources.now c.args.statements.now c.args.session.now.place (g.S.Store.files c.args.store.now)
+    (g.S.Store.files c.loop.store) c.loop.steps.items c.run_of-2.result.steps (g.S.Store.faults c.args.store.now) (g.S.Store.faults c.loop.store)
+    (Some run.Memory) c.run_of-2.result.ended c.run_of-2.ensures.steps c.run_of-2.ensures.ended
+    (full c.args.table.now c.args.schema.now c.args.sources.now c.args.statements.now c.args.session.now.place
+    (g.S.Store.files c.args.store.now) c.requires.open (g.S.Store.files c.loop.store) c.loop.session c.loop.steps.items c.loop.invariant.running
+    (g.S.Store.faults c.args.store.now) (g.S.Store.faults c.loop.store))

@@ -6,7 +6,8 @@ use Rattle.schedule_runner.proofs.going_on.go_on.Goals as goal
 
 pub returns-then-is_err-clause-ends : goal.returns-then-is_err-clause-ends
 returns-then-is_err-clause-ends g c = λ old told start first place begun running.
-    let made = unmade c.args.table.now c.args.schema.now c.args.sources.now c.args.statements.now c.requires.changes c.requires.statements.main start first place begun c.args.session.now c.requires.at_hand c.args.steps.now.items c.reserve.new.self.items old (g.S.Store.faults c.args.store.now) (g.S.Store.faults c.args.store.now) run.Memory c.reserve.ensures.items running in
+    let made = unmade c.args.table.now c.args.schema.now c.args.sources.now c.args.statements.now c.requires.changes c.requires.statements.main start first place begun c.args.session.now c.requires.at_hand c.args.steps.now.items c.reserve.new.self.items old
+    (g.S.Store.faults c.args.store.now) (g.S.Store.faults c.args.store.now) run.Memory c.reserve.ensures.items running in
     (old, told, made.0, made.1)
 
 pub returns-in-Err-clause-ends : goal.returns-in-Err-clause-ends

@@ -27,20 +27,31 @@ run_session-requires-clause-changes g c = subst (AllByRecursion (λ (s : Stateme
 
 pub returns-in-Err-clause-runs : goal.returns-in-Err-clause-runs
 returns-in-Err-clause-runs g c =
-    as_run c.args.table.now c.args.schema.now [] (statements_in c.args.script.now) (first_place 0) (g.S.Store.files c.args.store.now) (g.S.Store.files c.first_names.new.store) [] c.unbegun.result.steps (g.S.Store.faults c.args.store.now) (g.S.Store.faults c.first_names.new.store) (Some c.in-Err.fault) c.unbegun.result.ended c.unbegun.ensures.steps c.unbegun.ensures.ended
-    (by_fault c.args.table.now c.args.schema.now [] (statements_in c.args.script.now) 0 (g.S.Store.files c.args.store.now) (g.S.Store.files c.first_names.new.store) c.first_names.ensures.files (g.S.Store.faults c.args.store.now) (g.S.Store.faults c.first_names.new.store) c.in-Err.fault c.in-Err.ensures.kind)
+    as_run c.args.table.now c.args.schema.now [] (statements_in c.args.script.now) (first_place 0) (g.S.Store.files c.args.store.now)
+    (g.S.Store.files c.first_names.new.store) [] c.unbegun.result.steps (g.S.Store.faults c.args.store.now)
+    (g.S.Store.faults c.first_names.new.store) (Some c.in-Err.fault) c.unbegun.result.ended c.unbegun.ensures.steps c.unbegun.ensures.ended
+    (by_fault c.args.table.now c.args.schema.now [] (statements_in c.args.script.now) 0 (g.S.Store.files c.args.store.now)
+    (g.S.Store.files c.first_names.new.store) c.first_names.ensures.files (g.S.Store.faults c.args.store.now)
+    (g.S.Store.faults c.first_names.new.store) c.in-Err.fault c.in-Err.ensures.kind)
 
 pub returns-in-Err-clause-adds : goal.returns-in-Err-clause-adds
 returns-in-Err-clause-adds g c = λ old told. (old, c.first_names.ensures.files ∙ told, inl refl)
 
 pub returns-clause-adds : goal.returns-clause-adds
 returns-clause-adds g c = λ old told.
-    adds_by c.args.table.now (name_in c.args.script.now) c.in-Ok.names old (c.in-Ok.ensures.first.0 ∙ c.name_in.ensures) c.in-Ok.ensures.first.1 (c.in-Ok.ensures.fresh old told) (g.S.Store.files c.first_names.new.store) (g.S.Store.files c.run_session.new.store) (c.first_names.ensures.files ∙ told) c.run_session.ensures.told c.run_session.ensures.others
+    adds_by c.args.table.now (name_in c.args.script.now) c.in-Ok.names old (c.in-Ok.ensures.first.0 ∙ c.name_in.ensures) c.in-Ok.ensures.first.1
+    (c.in-Ok.ensures.fresh old told) (g.S.Store.files c.first_names.new.store) (g.S.Store.files c.run_session.new.store)
+    (c.first_names.ensures.files ∙ told) c.run_session.ensures.told c.run_session.ensures.others
 
 pub returns-clause-runs : goal.returns-clause-runs
 returns-clause-runs g c =
-    outcome_then c.args.table.now c.args.schema.now [] (statements_in c.args.script.now) (first_place 0) (g.S.Store.files c.args.store.now) (g.S.Store.files c.run_session.new.store) c.run_session.result.steps (g.S.Store.faults c.args.store.now) (g.S.Store.faults c.first_names.new.store) (g.S.Store.faults c.run_session.new.store) (g.S.Store.faults c.run_session.new.store) c.run_session.result.ended c.first_names.ensures.later (omega arith)
-    (subst (λ (xs : List Statement). HasOutcome c.args.table.now c.args.schema.now [] xs (first_place 0) (g.S.Store.files c.args.store.now) (g.S.Store.files c.run_session.new.store) c.run_session.result.steps (g.S.Store.faults c.first_names.new.store) (g.S.Store.faults c.run_session.new.store) c.run_session.result.ended) c.statements_in-statements.ensures
+    outcome_then c.args.table.now c.args.schema.now [] (statements_in c.args.script.now) (first_place 0) (g.S.Store.files c.args.store.now)
+    (g.S.Store.files c.run_session.new.store) c.run_session.result.steps (g.S.Store.faults c.args.store.now)
+    (g.S.Store.faults c.first_names.new.store) (g.S.Store.faults c.run_session.new.store)
+    (g.S.Store.faults c.run_session.new.store) c.run_session.result.ended c.first_names.ensures.later (omega arith)
+    (subst (λ (xs : List Statement). HasOutcome c.args.table.now c.args.schema.now [] xs (first_place 0) (g.S.Store.files c.args.store.now)
+    (g.S.Store.files c.run_session.new.store) c.run_session.result.steps (g.S.Store.faults c.first_names.new.store)
+    (g.S.Store.faults c.run_session.new.store) c.run_session.result.ended) c.statements_in-statements.ensures
     (λ files told. c.run_session.ensures.runs files (c.first_names.ensures.files ∙ told)))
 
 pub returns-clause-within : goal.returns-clause-within

@@ -11,7 +11,8 @@ use Rattle.session_steps.proofs.planning.plan_step.Goals as goal
 
 pub returns-in-Ok-take-clause-step : goal.returns-in-Ok-take-clause-step
 returns-in-Ok-take-clause-step g c old told current is =
-    plan_steps c.args.table.now c.args.schema.now c.args.sources.now c.args.statement.now c.requires.main old current is c.args.session.now.place c.take.new.session c.in-Ok-take.stepped c.requires.phase c.args.session.now.names c.plan.new.names (g.S.Store.files c.plan.new.store) c.requires.named c.if-session-ge-NAMES_END.false c.plan.ensures.raised.1 (c.requires.free old told)
+    plan_steps c.args.table.now c.args.schema.now c.args.sources.now c.args.statement.now c.requires.main old current is c.args.session.now.place c.take.new.session c.in-Ok-take.stepped c.requires.phase c.args.session.now.names c.plan.new.names
+    (g.S.Store.files c.plan.new.store) c.requires.named c.if-session-ge-NAMES_END.false c.plan.ensures.raised.1 (c.requires.free old told)
     (subst (λ (files : Option Files). KeepsFiles files (g.S.Store.files c.plan.new.store)) told c.plan.ensures.kept)
     (subst (λ (files : Option Files). PutsDataFiles c.args.table.now c.args.session.now.names files (g.S.Store.files c.plan.new.store)) told c.plan.ensures.others)
     c.in-Ok.planned (c.in-Ok.ensures.planned old told) c.in-Ok-take.ensures.turned c.in-Ok-take.ensures.pending

@@ -20,7 +20,11 @@ returns-in-None-clause-steps g c =
 pub swap_step-requires-clause-missing : goal.swap_step-requires-clause-missing
 swap_step-requires-clause-missing g c =
     let found = slice_get_read c.args.statements.now (length c.args.statements.now) c.args.session.now.place.at c.in-Some.statement.now refl c.in-Some.ensures.lookup.3.0 c.in-Some.ensures.lookup.1 in
-    λ files told prepared made. version_missing c.args.table.now c.args.schema.now c.args.sources.now c.in-Some.statement.now files (c.requires.open files told).0 c.args.session.now (c.requires.open files told).1 (held_in c.args.table.now c.args.schema.now c.args.sources.now files c.args.session.now (slice_get c.args.statements.now c.args.session.now.place.at) c.in-Some.statement.now phase.Swap found c.in-Swap.is (c.requires.held files told)) prepared made
+    λ files told prepared made. version_missing c.args.table.now c.args.schema.now c.args.sources.now c.in-Some.statement.now files
+    (c.requires.open files told).0 c.args.session.now (c.requires.open files told).1
+    (held_in c.args.table.now c.args.schema.now c.args.sources.now files c.args.session.now
+    (slice_get c.args.statements.now c.args.session.now.place.at) c.in-Some.statement.now phase.Swap found c.in-Swap.is
+    (c.requires.held files told)) prepared made
 
 pub returns-in-Plan-clause-steps : goal.returns-in-Plan-clause-steps
 returns-in-Plan-clause-steps g c =
@@ -32,7 +36,10 @@ returns-in-Plan-clause-steps g c =
 pub returns-in-Plan-clause-ends : goal.returns-in-Plan-clause-ends
 returns-in-Plan-clause-ends g c =
     let found = slice_get_read c.args.statements.now (length c.args.statements.now) c.args.session.now.place.at c.in-Some.statement.now refl c.in-Some.ensures.lookup.3.0 c.in-Some.ensures.lookup.1 in
-    each_err c.plan_step.result (λ fault files told current was. ends_as_before c.args.table.now c.args.schema.now files current c.args.session.now.names was c.args.sources.now c.in-Some.statement.now c.args.session.now.place (g.S.Store.faults c.args.store.now) (g.S.Store.faults c.plan_step.new.store) fault (slice_get c.args.statements.now c.args.session.now.place.at) (g.S.Store.files c.args.store.now) (g.S.Store.files c.plan_step.new.store) found told c.plan_step.ensures.kept c.plan_step.ensures.others)
+    each_err c.plan_step.result (λ fault files told current was. ends_as_before c.args.table.now c.args.schema.now files current c.args.session.now.names was c.args.sources.now c.in-Some.statement.now c.args.session.now.place
+    (g.S.Store.faults c.args.store.now) (g.S.Store.faults c.plan_step.new.store) fault
+    (slice_get c.args.statements.now c.args.session.now.place.at) (g.S.Store.files c.args.store.now)
+    (g.S.Store.files c.plan_step.new.store) found told c.plan_step.ensures.kept c.plan_step.ensures.others)
 
 pub returns-in-Plan-clause-unknown : goal.returns-in-Plan-clause-unknown
 returns-in-Plan-clause-unknown g c =
@@ -43,13 +50,20 @@ returns-in-Validate-clause-steps g c =
     let found = slice_get_read c.args.statements.now (length c.args.statements.now) c.args.session.now.place.at c.in-Some.statement.now refl c.in-Some.ensures.lookup.3.0 c.in-Some.ensures.lookup.1 in
     let main = all_at (λ (s : Statement). branch_of s ≡ codes "main") c.args.statements.now c.args.session.now.place.at c.in-Some.statement.now c.requires.statements.main found in
     if_ok c.validate_step.result c.validate_step.ensures.step (λ stepped step files told current was.
-    let made = step files told c.args.schema.now c.args.sources.now c.in-Some.statement.now current main was (held_in c.args.table.now c.args.schema.now c.args.sources.now files c.args.session.now (slice_get c.args.statements.now c.args.session.now.place.at) c.in-Some.statement.now phase.Validate found c.in-Validate.is (c.requires.held files told)) in
+    let made = step files told c.args.schema.now c.args.sources.now c.in-Some.statement.now current main was
+    (held_in c.args.table.now c.args.schema.now c.args.sources.now files c.args.session.now
+    (slice_get c.args.statements.now c.args.session.now.place.at) c.in-Some.statement.now phase.Validate found c.in-Validate.is
+    (c.requires.held files told)) in
     (made.0, made.1, by_statement c.args.table.now c.args.schema.now c.args.sources.now files made.0 current c.args.session.now.place c.validate_step.new.session stepped (slice_get c.args.statements.now c.args.session.now.place.at) c.in-Some.statement.now found made.2))
 
 pub returns-in-Validate-clause-ends : goal.returns-in-Validate-clause-ends
 returns-in-Validate-clause-ends g c =
     let found = slice_get_read c.args.statements.now (length c.args.statements.now) c.args.session.now.place.at c.in-Some.statement.now refl c.in-Some.ensures.lookup.3.0 c.in-Some.ensures.lookup.1 in
-    each_err c.validate_step.result (λ fault files told current was. ends_as_before c.args.table.now c.args.schema.now files current c.args.session.now.names was c.args.sources.now c.in-Some.statement.now c.args.session.now.place (g.S.Store.faults c.args.store.now) (g.S.Store.faults c.validate_step.new.store) fault (slice_get c.args.statements.now c.args.session.now.place.at) (g.S.Store.files c.args.store.now) (g.S.Store.files c.validate_step.new.store) found told c.validate_step.ensures.kept c.validate_step.ensures.others)
+    each_err c.validate_step.result
+    (λ fault files told current was. ends_as_before c.args.table.now c.args.schema.now files current c.args.session.now.names was c.args.sources.now c.in-Some.statement.now c.args.session.now.place
+    (g.S.Store.faults c.args.store.now) (g.S.Store.faults c.validate_step.new.store) fault
+    (slice_get c.args.statements.now c.args.session.now.place.at) (g.S.Store.files c.args.store.now)
+    (g.S.Store.files c.validate_step.new.store) found told c.validate_step.ensures.kept c.validate_step.ensures.others)
 
 pub returns-in-Validate-clause-unknown : goal.returns-in-Validate-clause-unknown
 returns-in-Validate-clause-unknown g c =
@@ -60,7 +74,10 @@ returns-in-Swap-clause-steps g c =
     let found = slice_get_read c.args.statements.now (length c.args.statements.now) c.args.session.now.place.at c.in-Some.statement.now refl c.in-Some.ensures.lookup.3.0 c.in-Some.ensures.lookup.1 in
     let main = all_at (λ (s : Statement). branch_of s ≡ codes "main") c.args.statements.now c.args.session.now.place.at c.in-Some.statement.now c.requires.statements.main found in
     if_ok c.swap_step.result c.swap_step.ensures.step (λ stepped step files told current was.
-    let made = step files told c.args.table.now c.args.schema.now c.args.sources.now c.in-Some.statement.now current main was (held_in c.args.table.now c.args.schema.now c.args.sources.now files c.args.session.now (slice_get c.args.statements.now c.args.session.now.place.at) c.in-Some.statement.now phase.Swap found c.in-Swap.is (c.requires.held files told)) in
+    let made = step files told c.args.table.now c.args.schema.now c.args.sources.now c.in-Some.statement.now current main was
+    (held_in c.args.table.now c.args.schema.now c.args.sources.now files c.args.session.now
+    (slice_get c.args.statements.now c.args.session.now.place.at) c.in-Some.statement.now phase.Swap found c.in-Swap.is
+    (c.requires.held files told)) in
     (made.0, made.1, by_statement c.args.table.now c.args.schema.now c.args.sources.now files made.0 current c.args.session.now.place c.swap_step.new.session stepped (slice_get c.args.statements.now c.args.session.now.place.at) c.in-Some.statement.now found made.2))
 
 pub returns-in-Swap-clause-ends : goal.returns-in-Swap-clause-ends
@@ -69,18 +86,28 @@ returns-in-Swap-clause-ends g c =
     let main = all_at (λ (s : Statement). branch_of s ≡ codes "main") c.args.statements.now c.args.session.now.place.at c.in-Some.statement.now c.requires.statements.main found in
     if_err c.swap_step.result c.swap_step.ensures.ends (λ fault left files told current was.
     let has = held_in c.args.table.now c.args.schema.now c.args.sources.now files c.args.session.now (slice_get c.args.statements.now c.args.session.now.place.at) c.in-Some.statement.now phase.Swap found c.in-Swap.is (c.requires.held files told) in
-    swap_ends_of c.args.table.now c.args.schema.now c.args.sources.now c.in-Some.statement.now files current c.args.session.now was has main (g.S.Store.files c.args.store.now) (g.S.Store.files c.swap_step.new.store) told (g.S.Store.faults c.args.store.now) (g.S.Store.faults c.swap_step.new.store) c.in-Swap.is (slice_get c.args.statements.now c.args.session.now.place.at) found fault (left has.prepared has.made))
+    swap_ends_of c.args.table.now c.args.schema.now c.args.sources.now c.in-Some.statement.now files current c.args.session.now was has main (g.S.Store.files c.args.store.now)
+    (g.S.Store.files c.swap_step.new.store) told (g.S.Store.faults c.args.store.now) (g.S.Store.faults c.swap_step.new.store) c.in-Swap.is
+    (slice_get c.args.statements.now c.args.session.now.place.at) found fault (left has.prepared has.made))
 
 pub returns-in-Swap-clause-free : goal.returns-in-Swap-clause-free
 returns-in-Swap-clause-free g c =
     let found = slice_get_read c.args.statements.now (length c.args.statements.now) c.args.session.now.place.at c.in-Some.statement.now refl c.in-Some.ensures.lookup.3.0 c.in-Some.ensures.lookup.1 in
     subst (λ (names : Names). ForSome (g.S.Store.files c.swap_step.new.store) (NoneFrom c.args.table.now names.run names.session names.next)) (sym c.swap_step.ensures.names)
-    (free_after c.args.table.now c.args.schema.now c.args.sources.now c.in-Some.statement.now c.args.session.now (has_version c.args.session.now c.in-Swap.is c.requires.shape) c.args.session.now.names.run c.args.session.now.names.next c.args.session.now.names.session (g.S.Store.files c.args.store.now) (g.S.Store.files c.swap_step.new.store) c.swap_step.ensures.swaps (at_hand c.args.table.now c.args.schema.now c.args.sources.now c.args.statements.now c.args.session.now c.in-Some.statement.now (g.S.Store.files c.args.store.now) found c.in-Swap.is c.requires.open c.requires.held) c.requires.free)
+    (free_after c.args.table.now c.args.schema.now c.args.sources.now c.in-Some.statement.now c.args.session.now
+    (has_version c.args.session.now c.in-Swap.is c.requires.shape) c.args.session.now.names.run c.args.session.now.names.next c.args.session.now.names.session
+    (g.S.Store.files c.args.store.now) (g.S.Store.files c.swap_step.new.store) c.swap_step.ensures.swaps
+    (at_hand c.args.table.now c.args.schema.now c.args.sources.now c.args.statements.now c.args.session.now c.in-Some.statement.now
+    (g.S.Store.files c.args.store.now) found c.in-Swap.is c.requires.open c.requires.held) c.requires.free)
 
 pub returns-in-Swap-clause-others : goal.returns-in-Swap-clause-others
 returns-in-Swap-clause-others g c =
     let found = slice_get_read c.args.statements.now (length c.args.statements.now) c.args.session.now.place.at c.in-Some.statement.now refl c.in-Some.ensures.lookup.3.0 c.in-Some.ensures.lookup.1 in
-    others_after c.args.table.now c.args.schema.now c.args.sources.now c.in-Some.statement.now c.args.session.now (has_version c.args.session.now c.in-Swap.is c.requires.shape) c.args.session.now.names (g.S.Store.files c.args.store.now) (g.S.Store.files c.swap_step.new.store) c.swap_step.ensures.swaps (at_hand c.args.table.now c.args.schema.now c.args.sources.now c.args.statements.now c.args.session.now c.in-Some.statement.now (g.S.Store.files c.args.store.now) found c.in-Swap.is c.requires.open c.requires.held)
+    others_after c.args.table.now c.args.schema.now c.args.sources.now c.in-Some.statement.now c.args.session.now
+    (has_version c.args.session.now c.in-Swap.is c.requires.shape) c.args.session.now.names (g.S.Store.files c.args.store.now)
+    (g.S.Store.files c.swap_step.new.store) c.swap_step.ensures.swaps
+    (at_hand c.args.table.now c.args.schema.now c.args.sources.now c.args.statements.now c.args.session.now c.in-Some.statement.now
+    (g.S.Store.files c.args.store.now) found c.in-Swap.is c.requires.open c.requires.held)
 
 pub returns-in-Plan-clause-at_hand : goal.returns-in-Plan-clause-at_hand
 returns-in-Plan-clause-at_hand g c =
@@ -100,14 +127,23 @@ pub returns-in-Validate-clause-faulted : goal.returns-in-Validate-clause-faulted
 returns-in-Validate-clause-faulted g c =
     let found = slice_get_read c.args.statements.now (length c.args.statements.now) c.args.session.now.place.at c.in-Some.statement.now refl c.in-Some.ensures.lookup.3.0 c.in-Some.ensures.lookup.1 in
     if_err c.validate_step.result c.validate_step.ensures.faulted (λ fault why files told s is.
-    faulted.at_hand c.args.table.now c.args.schema.now files (slice_get c.args.statements.now c.args.session.now.place.at) c.in-Some.statement.now s found is fault (why files told c.args.schema.now c.args.sources.now c.in-Some.statement.now (held_in c.args.table.now c.args.schema.now c.args.sources.now files c.args.session.now (slice_get c.args.statements.now c.args.session.now.place.at) c.in-Some.statement.now phase.Validate found c.in-Validate.is (c.requires.held files told))))
+    faulted.at_hand c.args.table.now c.args.schema.now files
+    (slice_get c.args.statements.now c.args.session.now.place.at) c.in-Some.statement.now s found is fault
+    (why files told c.args.schema.now c.args.sources.now c.in-Some.statement.now
+    (held_in c.args.table.now c.args.schema.now c.args.sources.now files c.args.session.now
+    (slice_get c.args.statements.now c.args.session.now.place.at) c.in-Some.statement.now phase.Validate found c.in-Validate.is
+    (c.requires.held files told))))
 
 pub returns-in-Swap-clause-faulted : goal.returns-in-Swap-clause-faulted
 returns-in-Swap-clause-faulted g c =
     let found = slice_get_read c.args.statements.now (length c.args.statements.now) c.args.session.now.place.at c.in-Some.statement.now refl c.in-Some.ensures.lookup.3.0 c.in-Some.ensures.lookup.1 in
     if_err c.swap_step.result c.swap_step.ensures.ends (λ fault left files told s is.
     let has = (held_in c.args.table.now c.args.schema.now c.args.sources.now files c.args.session.now (slice_get c.args.statements.now c.args.session.now.place.at) c.in-Some.statement.now phase.Swap found c.in-Swap.is (c.requires.held files told)) in
-    faulted.at_hand c.args.table.now c.args.schema.now files (slice_get c.args.statements.now c.args.session.now.place.at) c.in-Some.statement.now s found is fault (faulted.by_swap c.args.table.now c.args.schema.now c.in-Some.statement.now files has.prepared.name has.prepared.bytes (g.S.Store.files c.args.store.now) (g.S.Store.files c.swap_step.new.store) (g.S.Store.faults c.args.store.now) (g.S.Store.faults c.swap_step.new.store) fault (left has.prepared has.made)))
+    faulted.at_hand c.args.table.now c.args.schema.now files
+    (slice_get c.args.statements.now c.args.session.now.place.at) c.in-Some.statement.now s found is fault
+    (faulted.by_swap c.args.table.now c.args.schema.now c.in-Some.statement.now files has.prepared.name has.prepared.bytes
+    (g.S.Store.files c.args.store.now) (g.S.Store.files c.swap_step.new.store) (g.S.Store.faults c.args.store.now)
+    (g.S.Store.faults c.swap_step.new.store) fault (left has.prepared has.made)))
 
 pub returns-in-Swap-clause-told : goal.returns-in-Swap-clause-told
 returns-in-Swap-clause-told g c = told_after c.args.session.now.prepared (has_version c.args.session.now c.in-Swap.is c.requires.shape) (g.S.Store.files c.args.store.now) (g.S.Store.files c.swap_step.new.store) c.swap_step.ensures.swaps

@@ -21,7 +21,9 @@ returns-in-Ok-take-clause-step g c old is schema sources s current main was has 
     c.args.session.now.names c.validate-validated.new.names c.args.now_ms c.in-Ok.validated c.requires.named c.requires.hour (omega (arith, c.if-session-ge-NAMES_END.false)) c.validate-validated.ensures.raised.1
     (g.S.Store.files c.args.store.now) (g.S.Store.files c.validate-validated.new.store) is
     (subst (λ (base : List Entry). IsValidated c.in-Some.pending.plan c.in-Some.pending.change base c.args.session.now.names c.args.now_ms c.args.table.now old (g.S.Store.files c.validate-validated.new.store) c.validate-validated.new.names c.in-Ok.validated) c.data_files_of-base.ensures
-    (subst (λ (now : ℤ). IsValidated c.in-Some.pending.plan c.in-Some.pending.change c.data_files_of-base.result.now c.args.session.now.names now c.args.table.now old (g.S.Store.files c.validate-validated.new.store) c.validate-validated.new.names c.in-Ok.validated) (to_z-of_z w64 c.args.now_ms c.ranges.now_ms)
+    (subst (λ (now : ℤ). IsValidated c.in-Some.pending.plan c.in-Some.pending.change c.data_files_of-base.result.now c.args.session.now.names now c.args.table.now old
+    (g.S.Store.files c.validate-validated.new.store) c.validate-validated.new.names c.in-Ok.validated)
+    (to_z-of_z w64 c.args.now_ms c.ranges.now_ms)
     (c.in-Ok.ensures.validated old is)))
     c.requires.free c.validate-validated.ensures.others c.validate-validated.ensures.kept
     c.take-in-Ok.new.session c.in-Ok-take.ensures.prepared c.in-Ok-take.ensures.pending c.requires.phase c.in-Ok-take.stepped c.in-Ok-take.ensures.turned
