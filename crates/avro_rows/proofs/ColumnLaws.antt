@@ -63,7 +63,9 @@ record_beside : (source : Source) (sources : List Source) (rows others : List (L
     (first : Result Value RowFault) (rest : Result (List Value) RowFault)
     → length rows ≡ length others
     → ((row other : List Value) → read_of (rows_from (source ∷ sources) (beside (rows ++ row ∷ []) (others ++ other ∷ [])) datums) ≡ both_read (read_of (rows_from (source ∷ []) (rows ++ row ∷ []) datums)) (read_of (rows_from sources (others ++ other ∷ []) datums)))
-    → read_of ((first >>= λ v. behind (v ∷ []) rest) >>= λ row. rows_from (source ∷ sources) (beside rows others ++ row ∷ []) datums) ≡ both_read (read_of ((first >>= λ v. Ok (v ∷ [])) >>= λ row. rows_from (source ∷ []) (rows ++ row ∷ []) datums)) (read_of (rest >>= λ row. rows_from sources (others ++ row ∷ []) datums))
+    → read_of ((first >>= λ v. behind (v ∷ []) rest) >>= λ row. rows_from (source ∷ sources) (beside rows others ++ row ∷ []) datums) ≡ both_read
+    (read_of ((first >>= λ v. Ok (v ∷ [])) >>= λ row. rows_from (source ∷ []) (rows ++ row ∷ []) datums))
+    (read_of (rest >>= λ row. rows_from sources (others ++ row ∷ []) datums))
 record_beside source sources rows others datums (Err e) rest same step = refl
 record_beside source sources rows others datums (Ok v) (Err e) same step = none_after (read_of (rows_from (source ∷ []) (rows ++ (v ∷ []) ∷ []) datums))
 record_beside source sources rows others datums (Ok v) (Ok row) same step = ap (λ (xs : List (List Value)). read_of (rows_from (source ∷ sources) xs datums)) (beside_more rows others (v ∷ []) row same) ∙ step (v ∷ []) row
@@ -92,7 +94,9 @@ rows_split source sources rows others (datum ∷ datums) e =
     let n = length rows in
     let values = values_of datum in
     let count : length (beside rows others) ≡ length rows = beside_length rows others e in
-    let step = record_beside source sources rows others datums (value_at source n values) (row_from n values [] sources) e (λ row other. rows_split source sources (rows ++ row ∷ []) (others ++ other ∷ []) datums (omega (arith, length-append rows (row ∷ []), length-append others (other ∷ [])))) in
+    let step = record_beside source sources rows others datums (value_at source n values) (row_from n values [] sources) e
+    (λ row other. rows_split source sources (rows ++ row ∷ []) (others ++ other ∷ []) datums
+    (omega (arith, length-append rows (row ∷ []), length-append others (other ∷ [])))) in
     rw (count, sym e, row_splits (length rows) (values_of datum) source sources, row_alone (length rows) (values_of datum) source) step
 
 -- ---- columns

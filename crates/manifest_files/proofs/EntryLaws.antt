@@ -149,7 +149,9 @@ partition_of columns parts places values all are h =
 file_rest : (partitions : Result (List Value) ManifestFault) (counts sizes : Result ℕ ManifestFault)
     (whole : Result ⊤ ManifestFault) (all_ids : Result (List ℤ) ManifestFault) (content : Content) (path : List ℕ)
     (is_avro : Bool) (referenced : Option (List ℕ)) (parts : FileParts)
-    → (partitions >>= λ partition. counts >>= λ count. sizes >>= λ size. whole >>= λ done. all_ids >>= λ equality_ids. Ok (record { content = content; path = path; is_avro = is_avro; partition = partition; count = count; size = size; equality_ids = equality_ids; referenced = referenced })) ≡ Ok parts → partitions ≡ Ok parts.partition
+    → (partitions >>= λ partition. counts >>= λ count. sizes >>= λ size. whole >>= λ done. all_ids >>= λ equality_ids. Ok
+    (record { content = content; path = path; is_avro = is_avro; partition = partition; count = count; size = size; equality_ids = equality_ids; referenced = referenced })) ≡ Ok parts
+    → partitions ≡ Ok parts.partition
 file_rest (Ok partition) (Ok count) (Ok size) (Ok done) (Ok ids) content path is_avro referenced parts h = cc
 file_rest (Err e) counts sizes whole all_ids content path is_avro referenced parts h = absurd cc
 file_rest (Ok partition) (Err e) sizes whole all_ids content path is_avro referenced parts h = absurd cc
@@ -164,13 +166,17 @@ file_partition places values parts h =
     let content = two_steps (content_at places.content values) _ parts h in
     let path = two_steps (needed_text (pos 100) places.path values) _ parts content.2 in
     let format = two_steps (format_at places.format values) _ parts path.2 in
-    file_rest (partition_at places values) (needed_count (pos 103) places.count values) (needed_count (pos 104) places.size values) (whole_maps places values) (ids_from [] (items_at values places.equality_ids)) content.0 path.0 format.0 (option_and_then as_text (option_and_then text_in (present_at values places.referenced))) parts format.2
+    file_rest (partition_at places values) (needed_count (pos 103) places.count values) (needed_count (pos 104) places.size values)
+    (whole_maps places values) (ids_from [] (items_at values places.equality_ids)) content.0 path.0 format.0
+    (option_and_then as_text (option_and_then text_in (present_at values places.referenced))) parts format.2
 
 fields_rest : (founds : Result (List PartPlace) ManifestFault) (counts sizes : Result ℕ ManifestFault)
     (all_values all_nulls lowers uppers : Result PairPlaces ManifestFault)
     (keys all_ids references : Result (Option ℕ) ManifestFault) (content : Option ℕ) (path format partition : ℕ)
     (places : FilePlaces)
-    → (founds >>= λ part_fields. counts >>= λ count. sizes >>= λ size. all_values >>= λ values. all_nulls >>= λ nulls. lowers >>= λ lower. uppers >>= λ upper. keys >>= λ key. all_ids >>= λ equality_ids. references >>= λ referenced. Ok (record { content = content; path = path; format = format; partition = partition; part_fields = part_fields; count = count; size = size; values = values; nulls = nulls; lower = lower; upper = upper; key = key; equality_ids = equality_ids; referenced = referenced })) ≡ Ok places → founds ≡ Ok places.part_fields
+    → (founds >>= λ part_fields. counts >>= λ count. sizes >>= λ size. all_values >>= λ values. all_nulls >>= λ nulls. lowers >>= λ lower. uppers >>= λ upper. keys >>= λ key. all_ids >>= λ equality_ids. references >>= λ referenced. Ok
+    (record { content = content; path = path; format = format; partition = partition; part_fields = part_fields; count = count; size = size; values = values; nulls = nulls; lower = lower; upper = upper; key = key; equality_ids = equality_ids; referenced = referenced })) ≡ Ok places
+    → founds ≡ Ok places.part_fields
 fields_rest (Ok found) (Ok count) (Ok size) (Ok values) (Ok nulls) (Ok lower) (Ok upper) (Ok key) (Ok ids) (Ok referenced) content path format partition places h = cc
 fields_rest (Err e) counts sizes all_values all_nulls lowers uppers keys all_ids references content path format partition places h = absurd cc
 fields_rest (Ok found) (Err e) sizes all_values all_nulls lowers uppers keys all_ids references content path format partition places h = absurd cc
@@ -191,7 +197,11 @@ file_fields columns parts fields places h =
     let path = two_steps (needed type.Text (pos 100) fields) _ places content.2 in
     let format = two_steps (needed type.Text (pos 101) fields) _ places path.2 in
     let partition = two_steps (needed type.Record (pos 102) fields) _ places format.2 in
-    let found = fields_rest (part_places columns (fields_under (pos 102) fields) [] parts) (needed type.Long (pos 103) fields) (needed type.Long (pos 104) fields) (pairs type.Long (pos 109) (pos 119) (pos 120) fields) (pairs type.Long (pos 110) (pos 121) (pos 122) fields) (pairs type.Bytes (pos 125) (pos 126) (pos 127) fields) (pairs type.Bytes (pos 128) (pos 129) (pos 130) fields) (optional type.Bytes (pos 131) fields) (optional_items type.Int (pos 135) fields) (optional type.Text (pos 143) fields) content.0 path.0 format.0 partition.0 places partition.2 in
+    let found = fields_rest (part_places columns (fields_under (pos 102) fields) [] parts) (needed type.Long (pos 103) fields)
+    (needed type.Long (pos 104) fields) (pairs type.Long (pos 109) (pos 119) (pos 120) fields)
+    (pairs type.Long (pos 110) (pos 121) (pos 122) fields) (pairs type.Bytes (pos 125) (pos 126) (pos 127) fields)
+    (pairs type.Bytes (pos 128) (pos 129) (pos 130) fields) (optional type.Bytes (pos 131) fields) (optional_items type.Int (pos 135) fields)
+    (optional type.Text (pos 143) fields) content.0 path.0 format.0 partition.0 places partition.2 in
     let are = parts_are columns (fields_under (pos 102) fields) [] parts places.part_fields found in
     subst (λ (ps : List PartPlace). AreOf columns parts ps) (sym are.1) are.2
 

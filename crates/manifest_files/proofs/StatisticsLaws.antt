@@ -87,7 +87,9 @@ above_placed id column (first ∷ columns) low all = above_by id column first co
 above_lower : (low high : ℤ) (columns : List KnownColumn) → int_lt low high ≡ true
     → list_all (λ other. int_lt high other.id) columns ≡ true → list_all (λ other. int_lt low other.id) columns ≡ true
 above_lower low high [] lt all = refl
-above_lower low high (first ∷ columns) lt all = both (int_lt low first.id) (list_all (λ other. int_lt low other.id) columns) (below_next low high first.id lt (first_holds (int_lt high first.id) (list_all (λ other. int_lt high other.id) columns) all)) (above_lower low high columns lt (rest_holds (int_lt high first.id) (list_all (λ other. int_lt high other.id) columns) all))
+above_lower low high (first ∷ columns) lt all = both (int_lt low first.id) (list_all (λ other. int_lt low other.id) columns)
+    (below_next low high first.id lt (first_holds (int_lt high first.id) (list_all (λ other. int_lt high other.id) columns) all))
+    (above_lower low high columns lt (rest_holds (int_lt high first.id) (list_all (λ other. int_lt high other.id) columns) all))
 
 rising_by : (column first : KnownColumn) (columns : List KnownColumn) (a b : Bool) → int_lt first.id column.id ≡ a
     → int_eq first.id column.id ≡ b → rising (first ∷ columns) ≡ true → rising (placed column columns) ≡ true
@@ -163,7 +165,10 @@ stats_above : (places : FilePlaces) (file : List Datum) (id : ℤ) (columns : Li
     → list_all (λ other. int_lt id other.id) (stats_from places file [] columns) ≡ true
 unfolding stats_from
 stats_above places file id [] all = refl
-stats_above places file id (column ∷ columns) all = ap (list_all (λ (other : ColumnStats). int_lt id other.id)) (front places file column columns) ∙ stats_above_by id (facts_of places file column) (stats_from places file [] columns) (tells (facts_of places file column)) (first_holds (int_lt id column.id) (list_all (λ other. int_lt id other.id) columns) all) (stats_above places file id columns (rest_holds (int_lt id column.id) (list_all (λ other. int_lt id other.id) columns) all))
+stats_above places file id (column ∷ columns) all = ap (list_all (λ (other : ColumnStats). int_lt id other.id)) (front places file column columns)
+    ∙ stats_above_by id (facts_of places file column) (stats_from places file [] columns) (tells (facts_of places file column))
+    (first_holds (int_lt id column.id) (list_all (λ other. int_lt id other.id) columns) all)
+    (stats_above places file id columns (rest_holds (int_lt id column.id) (list_all (λ other. int_lt id other.id) columns) all))
 
 rise_by : (facts : ColumnStats) (others : List ColumnStats) (b : Bool)
     → list_all (λ other. int_lt facts.id other.id) others ≡ true → rises others ≡ true
@@ -174,7 +179,10 @@ rise_by facts others false all up = up
 stats_up : (places : FilePlaces) (file : List Datum) (columns : List KnownColumn) → rising columns ≡ true → rises (stats_from places file [] columns) ≡ true
 unfolding stats_from
 stats_up places file [] up = refl
-stats_up places file (column ∷ columns) up = ap rises (front places file column columns) ∙ rise_by (facts_of places file column) (stats_from places file [] columns) (tells (facts_of places file column)) (stats_above places file column.id columns (first_holds (list_all (λ other. int_lt column.id other.id) columns) (rising columns) up)) (stats_up places file columns (rest_holds (list_all (λ other. int_lt column.id other.id) columns) (rising columns) up))
+stats_up places file (column ∷ columns) up = ap rises (front places file column columns)
+    ∙ rise_by (facts_of places file column) (stats_from places file [] columns) (tells (facts_of places file column))
+    (stats_above places file column.id columns (first_holds (list_all (λ other. int_lt column.id other.id) columns) (rising columns) up))
+    (stats_up places file columns (rest_holds (list_all (λ other. int_lt column.id other.id) columns) (rising columns) up))
 
 pub stats_rise : (places : FilePlaces) (file : List Datum) (columns : List KnownColumn) → IsRising columns → rises (stats_from places file [] columns) ≡ true
 unfolding IsRising

@@ -67,7 +67,10 @@ parts-after_snapshot branch s writer now d p order can h =
     parts_read _ _ (record {
       version = r.version;
       stand = keys_stand-after_snapshot branch s writer now d is r.stand;
-      plain = subst (λ (t : ℤ). plain_keys_of (after_snapshot branch s writer now d) ≡ Ok (record { location = p.location; last_sequence = s.seq; last_updated_ms = t; last_column = p.last_column })) time (plain_keys-after_snapshot branch s writer now d p.location p.last_sequence p.last_updated_ms p.last_column is can.fits.number (rw time can.time) r.plain);
+      plain = subst (λ (t : ℤ). plain_keys_of (after_snapshot branch s writer now d) ≡ Ok
+          (record { location = p.location; last_sequence = s.seq; last_updated_ms = t; last_column = p.last_column })) time
+          (plain_keys-after_snapshot branch s writer now d p.location p.last_sequence p.last_updated_ms p.last_column is can.fits.number
+          (rw time can.time) r.plain);
       ids = ids-after_snapshot branch s writer now d ∙ r.ids;
       current = optional_keys-after_snapshot branch s writer now d p.current_snapshot p.snapshots is can.fits can.told can.new r.snapshots r.current;
       snapshots = read_snapshots-after_snapshot branch s writer now d p.snapshots is can.fits r.snapshots;

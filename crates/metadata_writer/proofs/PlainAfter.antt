@@ -77,11 +77,19 @@ plain_keys-later : (d e : Data) (seq time : ℤ) (location : List ℕ) (old_seq 
 unfolding plain_keys_of
 plain_keys-later d e seq time location old_seq old_time column a b c f n t ls lt h =
     rw (a, b, c, f, n, t, as_i64-of_integer seq ls, as_i64-of_integer time lt)
-    (past_uuid (λ l x y z. record { location = l; last_sequence = x; last_updated_ms = y; last_column = z }) (λ k. record { location = k.location; last_sequence = seq; last_updated_ms = time; last_column = k.last_column }) (shaped (codes "format-version") (option_and_then whole_of (get (codes "format-version") d))) (shaped (codes "table-uuid") (text_at (codes "table-uuid") d)) (λ uuid. shape_if (codes "table-uuid") (not (is_uuid uuid))) (shaped (codes "location") (text_at (codes "location") d)) (shaped (codes "last-sequence-number") (long_at (codes "last-sequence-number") d)) (shaped (codes "last-updated-ms") (long_at (codes "last-updated-ms") d)) (shaped (codes "last-column-id") (int_at (codes "last-column-id") d)) seq time _ (λ _ _ _ _. refl) h)
+    (past_uuid (λ l x y z. record { location = l; last_sequence = x; last_updated_ms = y; last_column = z })
+    (λ k. record { location = k.location; last_sequence = seq; last_updated_ms = time; last_column = k.last_column })
+    (shaped (codes "format-version") (option_and_then whole_of (get (codes "format-version") d)))
+    (shaped (codes "table-uuid") (text_at (codes "table-uuid") d)) (λ uuid. shape_if (codes "table-uuid") (not (is_uuid uuid)))
+    (shaped (codes "location") (text_at (codes "location") d)) (shaped (codes "last-sequence-number") (long_at (codes "last-sequence-number") d))
+    (shaped (codes "last-updated-ms") (long_at (codes "last-updated-ms") d))
+    (shaped (codes "last-column-id") (int_at (codes "last-column-id") d)) seq time _ (λ _ _ _ _. refl) h)
 
 pub plain_keys-after_snapshot : (branch : List ℕ) (s : Snapshot) (writer : List ℕ) (now : ℤ) (d : Data) (location : List ℕ)
     (old_seq old_time column : ℤ) → IsSome (as_object d) → IsLong s.seq → IsLong (time_after now d)
-    → plain_keys_of d ≡ Ok (record { location = location; last_sequence = old_seq; last_updated_ms = old_time; last_column = column }) → plain_keys_of (after_snapshot branch s writer now d) ≡ Ok (record { location = location; last_sequence = s.seq; last_updated_ms = time_after now d; last_column = column })
+    → plain_keys_of d ≡ Ok (record { location = location; last_sequence = old_seq; last_updated_ms = old_time; last_column = column })
+    → plain_keys_of (after_snapshot branch s writer now d) ≡ Ok
+    (record { location = location; last_sequence = s.seq; last_updated_ms = time_after now d; last_column = column })
 plain_keys-after_snapshot branch s writer now d location old_seq old_time column is ls lt h =
     plain_keys-later d _ s.seq (time_after now d) location old_seq old_time column
     (stays branch s writer now d (codes "format-version") refl refl refl refl refl refl refl)

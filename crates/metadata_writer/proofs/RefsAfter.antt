@@ -35,7 +35,14 @@ branch_read : (name : List ℕ) (id : ℤ) (old : Data) → IsSome (as_object ol
 unfolding ref_of branch_data is_tag_type
 branch_read name id old is long =
     let first = object-with_key (codes "snapshot-id") (long_data id) old is in
-    rw (get-with_key_other (codes "snapshot-id") (codes "type") (string (codes "branch")) (with_key (codes "snapshot-id") (long_data id) old) (apart _ _ refl), get-with_key (codes "snapshot-id") (long_data id) old is, get-with_key (codes "type") (string (codes "branch")) _ first, as_i64-of_integer id long) refl
+    rw (
+      get-with_key_other (codes "snapshot-id") (codes "type") (string (codes "branch")) (with_key (codes "snapshot-id") (long_data id) old)
+          (apart _ _ refl),
+      get-with_key (codes "snapshot-id") (long_data id) old is,
+      get-with_key (codes "type")
+          (string (codes "branch")) _ first,
+      as_i64-of_integer id long,
+    ) refl
 
 -- the refs of these members
 abbrev read_each : Members → Result (List RefItem) MetadataFault

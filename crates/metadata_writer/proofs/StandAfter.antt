@@ -91,7 +91,14 @@ branch_stands : (id : ℤ) (old : Data) → IsSome (as_object old) → ref_keys_
 unfolding ref_keys_stand branch_data
 branch_stands id old is =
     let first = object-with_key (codes "snapshot-id") (long_data id) old is in
-    rw (object-with_key (codes "type") (string (codes "branch")) _ first, get-with_key_other (codes "snapshot-id") (codes "type") (string (codes "branch")) (with_key (codes "snapshot-id") (long_data id) old) (apart _ _ refl), get-with_key (codes "snapshot-id") (long_data id) old is, get-with_key (codes "type") (string (codes "branch")) _ first) refl
+    rw (
+      object-with_key (codes "type") (string (codes "branch")) _ first,
+      get-with_key_other (codes "snapshot-id") (codes "type")
+          (string (codes "branch")) (with_key (codes "snapshot-id") (long_data id) old) (apart _ _ refl),
+      get-with_key (codes "snapshot-id")
+          (long_data id) old is,
+      get-with_key (codes "type") (string (codes "branch")) _ first,
+    ) refl
 
 none_stand : refs_stand no_members ≡ Ok tt
 unfolding refs_stand

@@ -180,7 +180,18 @@ rows_after_split width sources s rows wide weight =
     let met = flat_map (remains sources s) (hits width s rows) in
     let made = map row_of (insertions width sources s rows) in
     let same = map row_of (insertions width sources s (hits width s rows)) in
-    omega (arith, split_by_hit width (holds_on (filter_of width s)) (remains sources s) (row_stays sources s width) rows wide weight, ap (λ more. total weight (map row_of more)) (insertions_of_hits width sources s rows wide), total-append weight left made, total-append weight missed (met ++ same), total-append weight met same, total-append weight missed met)
+    omega (
+      arith,
+      split_by_hit width (holds_on (filter_of width s)) (remains sources s) (row_stays sources s width) rows wide weight,
+      ap
+          (λ more. total weight (map row_of more))
+          (insertions_of_hits width sources s rows wide),
+      total-append weight left made,
+      total-append weight missed
+          (met ++ same),
+      total-append weight met same,
+      total-append weight missed met,
+    )
 
 beside_same : (why : Option SqlRefusal) (kept xs ys : List (List Value)) → SameBag xs (kept ++ ys)
     → SameResult (unless_refused why xs) (beside kept (unless_refused why ys))

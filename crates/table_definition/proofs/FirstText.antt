@@ -53,7 +53,10 @@ made location now a is fits long = record {
   reads_spec = is.spec;
   are_texts = is.are_texts;
   reads_properties = is.properties;
-  ids = sound_schema-fits (last_column a.schema.columns) (last_partition a.spec.fields) a.schema a.spec (sound_schema (schema_json a.json) a.schema is.schema) (alone _ (none_above (λ (column : Column). column.id) (neg_ℤ (pos (2 ^ 31))) a.schema.columns)) (alone _ (none_above (λ (field : PartField). field.field) (pos 999) a.spec.fields));
+  ids = sound_schema-fits (last_column a.schema.columns) (last_partition a.spec.fields) a.schema a.spec
+      (sound_schema (schema_json a.json) a.schema is.schema)
+      (alone _ (none_above (λ (column : Column). column.id) (neg_ℤ (pos (2 ^ 31))) a.schema.columns))
+      (alone _ (none_above (λ (field : PartField). field.field) (pos 999) a.spec.fields));
   last_column = fits.last_column;
   last_partition = fits.last_partition;
   created = long;

@@ -93,7 +93,9 @@ module _ (now later : Files) (kept : KeepsFiles (Some now) (Some later)) where
       → Stands (λ files. data_rows table parts earlier entries files)
   unfolding data_rows
   rows_stand table parts earlier [] x e = e
-  rows_stand table parts earlier (entry ∷ entries) x e = stands_then (λ files. data_file_at table parts entry.path files) (λ rows files. data_rows table parts (earlier ++ rows) entries files) (data_file_stands table parts entry.path) (λ rows. rows_stand table parts (earlier ++ rows) entries) x e
+  rows_stand table parts earlier (entry ∷ entries) x e = stands_then (λ files. data_file_at table parts entry.path files)
+      (λ rows files. data_rows table parts (earlier ++ rows) entries files) (data_file_stands table parts entry.path)
+      (λ rows. rows_stand table parts (earlier ++ rows) entries) x e
 
   pub branch_rows_stand : (table : List ℕ) (parts : Parts) (branch : List ℕ) → Stands (λ files. rows_at table parts branch files)
   unfolding rows_at

@@ -52,7 +52,10 @@ loop-rest-preserved g c =
     let above : c.args.names.now.next ≤ names.next = omega (arith, inv.next, inv.left) in
     record {
       entries = entries_step metadata names later c.loop-rest.entries c.push.new.self _ rest piece c.in-Ok.entry is (wrote.entry ∙ ap (λ (rows : List (List Value)). entry_at metadata names rows) same) wrote.names c.in_ok-push.ensures.ok inv.entries;
-      files = files_step columns table names later rest piece (g.S.Store.files c.loop-rest.store) (g.S.Store.files c.write_piece.new.store) _ is wrote.names (wrote.files ∙ ap (λ (rows : List (List Value)). option_map (with_file (next_name table names) (rows_text columns rows)) (g.S.Store.files c.loop-rest.store)) same) inv.files;
+      files = files_step columns table names later rest piece (g.S.Store.files c.loop-rest.store)
+          (g.S.Store.files c.write_piece.new.store) _ is wrote.names
+          (wrote.files ∙ ap (λ (rows : List (List Value)). option_map (with_file (next_name table names) (rows_text columns rows))
+          (g.S.Store.files c.loop-rest.store)) same) inv.files;
       short = short_step columns rest c.args.pieces.now piece is (subst (λ (rows : List (List Value)). length (rows_text columns rows) < 2 ^ 63) same wrote.short) inv.short;
       next = omega (arith, count, next, inv.next);
       left = omega (arith, count, inv.left);
