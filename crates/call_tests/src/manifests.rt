@@ -78,13 +78,14 @@ fn amount(unscaled: i128) -> Value {
     Value::Decimal { unscaled, scale: 2 }
 }
 
-/// A date, an amount, NULL and NULL under a void transform.
+/// A date, an amount, NULL, NULL under a void transform and an amount again.
 fn partition(alloc: Global) -> Result<List<Value>, AllocError> {
     let mut values = List::new(alloc);
     values.push(Value::Date(19000))?;
     values.push(amount(-129))?;
     values.push(Value::Null)?;
     values.push(Value::Null)?;
+    values.push(amount(250))?;
     Ok(values)
 }
 
@@ -143,13 +144,14 @@ fn part(
     })
 }
 
-/// A day, an amount, a bucket and a void field, whose names are none of Avro.
+/// A day, an amount, a bucket, a void field and the amount again, whose names are none of Avro.
 fn spec(alloc: Global) -> Result<Spec, AllocError> {
     let mut fields = List::new(alloc);
     fields.push(part(alloc, 1, 1000, Transform::Day)?)?;
     fields.push(part(alloc, 2, 1001, Transform::Identity)?)?;
     fields.push(part(alloc, 2, 1002, Transform::Bucket(4))?)?;
     fields.push(part(alloc, 2, 1003, Transform::Void)?)?;
+    fields.push(part(alloc, 2, 1004, Transform::Identity)?)?;
     Ok(Spec { id: 3, fields })
 }
 

@@ -1,12 +1,12 @@
 -- The entries that are read of a manifest can be written again.
-use Rattle.std.proofs.Common.{◌≡◌, ◌<◌, ◌^◌, ℕ, ℤ, pos, nat_lt, Bool, true, false, cond, ◌&&◌, ◌||◌, List, [], ◌∷◌, ◌++◌, Option, Some, None, option_and_then, Result, Ok, Err, refl, sym, ap, subst, ◌∙◌, append_assoc, arith}
+use Rattle.std.proofs.Common.{◌≡◌, ◌<◌, ◌^◌, ℕ, ℤ, pos, nat_lt, Bool, true, false, ◌&&◌, ◌||◌, List, [], ◌∷◌, ◌++◌, Option, Some, None, option_and_then, Result, Ok, Err, refl, sym, ap, subst, ◌∙◌, append_assoc, arith}
 use Rattle.std.specs.Prelude.{⊤, int_lt, if◌then◌else◌}
-use Rattle.std.specs.List.{AllByRecursion, list_all, list_any}
+use Rattle.std.specs.List.{AllByRecursion, list_all}
 use Rattle.std.specs.Ordering.{int_eq}
 use Rattle.std.proofs.lemmas.Bool.Decides.{nat_tests}
 use Rattle.std.proofs.lemmas.Int.{ints}
 use Rattle.std.proofs.lemmas.List.Folds.{list_all-append}
-use Rattle.plain_types.specs.Steps.{◌>>=◌, by_option, fault_as, or_fault}
+use Rattle.plain_types.specs.Steps.{◌>>=◌, fault_as, or_fault}
 use Rattle.row_values.specs.declared.kind.Kind.{Kind}
 use Rattle.row_values.specs.declared.partition.Spec.{Spec}
 use Rattle.row_values.specs.declared.schema.TableSchema.{TableSchema}
@@ -40,18 +40,10 @@ use Rattle.manifest_files.specs.Needed.{needed_count, needed_text}
 use Rattle.manifest_files.specs.Places.{entry_places}
 use Rattle.manifest_files.specs.Sound.{is_entry}
 use Rattle.manifest_files.specs.Statistics.{bound_in, count_of, facts_of, is_key, known_columns, stats_from, tells, value_under}
+use Rattle.row_writer.proofs.CallerLemmas.{both, first, second}
 use Rattle.manifest_writer.specs.Readable.{are_told, fits_count, has_counts, is_bounded, is_known, is_of, is_written}
 use Rattle.manifest_writer.proofs.ContainerFits.{container_fits}
 use Rattle.manifest_writer.proofs.Fitting.{AreFitting, Fitting, IsFitting, count_fits, items_fit, present_fits, values_fit}
-use Rattle.manifest_writer.proofs.RowsAgain.{both}
-
-first : (a b : Bool) → (a && b) ≡ true → a ≡ true
-first true b h = refl
-first false b h = h
-
-second : (a b : Bool) → (a && b) ≡ true → b ≡ true
-second true b h = h
-second false b h = absurd cc
 
 small : (n : ℕ) → n < 2 ^ 63 → nat_lt n (2 ^ 63) ≡ true
 small n h = grind (arith, nat_tests, h)

@@ -17,11 +17,11 @@ use Rattle.manifest_writer.specs.EntryDatum.{content_number, own_number, id_datu
 use Rattle.manifest_writer.specs.PartDatum.{part_datums}
 use Rattle.manifest_writer.specs.PartNames.{are_names}
 use Rattle.manifest_writer.specs.Value.{optional_text, AreUtf8}
-use Rattle.manifest_writer.proofs.Plans.{Plan, int_plan, long_plan, bytes_plan, text_plan, pairs_plan, optional_plan, items_plan, record_plan, Plans, no_plans, more_plans, type_of, types_of, plan_folds}
+use Rattle.row_writer.proofs.CallerLemmas.{Plan, int_plan, long_plan, bytes_plan, text_plan, pairs_plan, optional_plan, items_plan, record_plan, Plans, no_plans, more_plans, type_of, types_of, plan_folds, plan_shapes, option_shape, text_fits, int_fits, none_fits, some_fits, no_field, more_fields, record_fits, array_fits}
 use Rattle.manifest_writer.proofs.PartPlans.{part_plans, parts_are}
-use Rattle.manifest_writer.proofs.PartFits.{plan_shapes, parts_fit}
+use Rattle.manifest_writer.proofs.PartFits.{parts_fit}
 use Rattle.manifest_writer.proofs.FactFits.{count_by, pair_shape, fact_value_fits}
-use Rattle.manifest_writer.proofs.FieldLaws.{option_shape, text_fits, int_fits, none_fits, some_fits, optional_long_fits, no_field, more_fields, record_fits, array_fits}
+use Rattle.manifest_writer.proofs.FieldLaws.{optional_long_fits}
 
 -- a map of a fact
 abbrev pub pairs_of_plan : List ℕ → ℤ → ℤ → Plan → Plan

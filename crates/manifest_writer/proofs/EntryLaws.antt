@@ -30,7 +30,7 @@ use Rattle.manifest_files.specs.declared.manifest_row.ManifestRow.{ManifestRow}
 use Rattle.manifest_files.specs.declared.numbers.Numbers.{Numbers}
 use Rattle.manifest_files.specs.declared.numbers.RawNumbers.{RawNumbers}
 use Rattle.manifest_files.specs.declared.places.PartPlace.{PartPlace}
-use Rattle.manifest_files.specs.Datums.{present, present_at, present_in, int_in, long_in, text_in, items_level, items_at, as_text, natural_of}
+use Rattle.manifest_files.specs.Datums.{present, present_in, long_in, text_in, items_level, items_at, as_text, natural_of}
 use Rattle.manifest_files.specs.Entries.{status_of, status_at, is_live, raw_numbers, content_of, content_at, is_avro, format_at, part_values, partition_at, id_in, ids_from, whole_map, single_keys, whole_maps, file_parts, known_format, allowed, whole_entry, entry_of, entries_from, entries_of}
 use Rattle.manifest_files.specs.Inheritance.{kept, numbered}
 use Rattle.manifest_files.specs.Needed.{needed_text, needed_count}
@@ -48,7 +48,8 @@ use Rattle.manifest_writer.specs.PartNames.{are_names}
 use Rattle.manifest_writer.specs.Readable.{is_written, IsWritableSpec, CanBeWritten, as_read}
 use Rattle.manifest_writer.specs.Value.{optional_text, AreUtf8, count_number}
 use Rattle.manifest_writer.proofs.PlanTypes.{goes}
-use Rattle.manifest_writer.proofs.FactLaws.{first, second, pair_places, pairs_are, keys_once, map_items, HasFacts, under_there, stats_again}
+use Rattle.manifest_writer.proofs.FactLaws.{pair_places, pairs_are, keys_once, map_items, HasFacts, under_there, stats_again}
+use Rattle.row_writer.proofs.CallerLemmas.{first, second, values_is, array_out, text_out}
 use Rattle.manifest_writer.proofs.PartLaws.{placed, are_kinds, kinds_sound, parts_again, all_found}
 use Rattle.manifest_writer.proofs.EntryFits.{spec_plans, entry_types_is, entries_fit}
 use Rattle.manifest_writer.proofs.EntryPlaces.{file_found, entry_found, entry_places_is}
@@ -56,7 +57,7 @@ use Rattle.manifest_writer.proofs.EntryText.{entry_has_text, entry_takes_bytes, 
 use Rattle.manifest_writer.proofs.KnownKinds.{known_kinds}
 use Rattle.manifest_writer.specs.ManifestMeta.{manifest_meta}
 use Rattle.manifest_writer.proofs.ManifestMetas.{are_meta}
-use Rattle.manifest_writer.proofs.ValueLaws.{values_is, record_there, array_out, array_there, null_absent, text_out, branch, text_again, int_again, long_again, optional_long_again}
+use Rattle.manifest_writer.proofs.ValueLaws.{record_there, array_there, null_absent, branch, text_again, int_again, long_again, optional_long_again}
 use Rattle.avro_binary.specs.declared.datum.Datum.TheOpen as open_datum
 
 -- ---- the numbers
@@ -257,7 +258,7 @@ entries_again row spec schema earlier (entry ∷ entries) (fits, others) kinds h
 abbrev file : List Entry → Spec → TableSchema → Container
 file entries spec schema = record { schema = entry_types spec schema; meta = manifest_meta entries spec schema; datums = map (datum_of_entry spec schema) entries }
 
-places_found : (spec : Spec) (schema : TableSchema) → IsWritableSpec spec schema
+places_found : (spec : Spec) (schema : TableSchema) → IsWritableSpec spec
     → entry_places schema.columns spec.fields (fields_of (entry_types spec schema)) ≡ Ok (entry_found (found_parts spec schema))
 places_found spec schema writable = ap (λ (s : Schema). entry_places schema.columns spec.fields (fields_of s)) (sym (entry_types_is spec schema)) ∙ entry_places_is schema.columns spec.fields (spec_plans spec schema) (found_parts spec schema) (all_found schema.columns (are_names spec.fields) spec.fields writable.apart)
 

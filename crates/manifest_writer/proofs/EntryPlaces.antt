@@ -11,8 +11,8 @@ use Rattle.manifest_files.specs.declared.places.PartPlace.{PartPlace}
 use Rattle.manifest_files.specs.declared.places.FilePlaces.{FilePlaces}
 use Rattle.manifest_files.specs.declared.places.EntryPlaces.{EntryPlaces}
 use Rattle.manifest_files.specs.Places.{field_from, needed, optional, optional_items, pairs, fields_under, part_places, file_places, entry_places}
-use Rattle.manifest_writer.proofs.Plans.{int_plan, long_plan, bytes_plan, text_plan, optional_plan, record_plan, Plans, no_plans, more_plans, type_of, types_of}
-use Rattle.manifest_writer.proofs.PlanTypes.{plan_out, fields_is, goes, needed_is, optional_is, optional_items_is, typed_at_is, pairs_is}
+use Rattle.row_writer.proofs.CallerLemmas.{int_plan, long_plan, bytes_plan, text_plan, optional_plan, record_plan, Plans, no_plans, more_plans, type_of, types_of, plan_out}
+use Rattle.manifest_writer.proofs.PlanTypes.{fields_is, goes, needed_is, optional_is, optional_items_is, typed_at_is, pairs_is}
 use Rattle.manifest_writer.proofs.FactLaws.{pair_places}
 use Rattle.manifest_writer.proofs.EntryFits.{file_plans, entry_plans, entry_plan}
 

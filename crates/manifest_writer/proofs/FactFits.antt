@@ -13,7 +13,7 @@ use Rattle.avro_binary.specs.Spelling.{IsSignedOf, Fits}
 use Rattle.manifest_writer.specs.declared.fact.Fact.{Fact}
 use Rattle.manifest_writer.specs.declared.fact.Fact.TheVariants as fact
 use Rattle.manifest_writer.specs.Facts.{count_datum, bound_datum, fact_datum, pair, pairs_of, map_value, fact_value, HasIds}
-use Rattle.manifest_writer.proofs.FieldLaws.{option_shape, int_fits, long_fits, bytes_fits, none_fits, some_fits, no_field, more_fields, record_fits, array_fits}
+use Rattle.row_writer.proofs.CallerLemmas.{option_shape, int_fits, long_fits, bytes_fits, none_fits, some_fits, no_field, more_fields, record_fits, array_fits}
 
 pub count_by : (b : Bool) (n : ℕ) → nat_lt n (2 ^ 63) ≡ b → Fits long_shape (datum.Long (if b then pos n else pos (2 ^ 63 - 1)))
 count_by true n h = let lt : n < 2 ^ 63 = ltb-true n (2 ^ 63) h in long_fits (pos n) lt

@@ -27,15 +27,8 @@ use Rattle.manifest_writer.specs.declared.fact.Fact.TheVariants as fact
 use Rattle.manifest_writer.specs.Facts.{count_datum, bound_datum, fact_datum, pair, pairs_of, map_value}
 use Rattle.manifest_writer.specs.Readable.{fits_count, has_counts, is_of, is_bounded, is_known, are_told}
 use Rattle.manifest_writer.specs.Value.{count_number}
-use Rattle.manifest_writer.proofs.ValueLaws.{values_is, array_out, array_there, null_absent, long_there, bytes_there, long_value, bytes_value, int_again}
-
-pub first : (a b : Bool) → (a && b) ≡ true → a ≡ true
-first true b h = refl
-first false b h = absurd cc
-
-pub second : (a b : Bool) → (a && b) ≡ true → b ≡ true
-second true b h = h
-second false b h = absurd cc
+use Rattle.manifest_writer.proofs.ValueLaws.{array_there, null_absent, long_there, bytes_there, long_value, bytes_value, int_again}
+use Rattle.row_writer.proofs.CallerLemmas.{array_out, first, second, values_is}
 
 -- ---- numbers
 

@@ -1,44 +1,12 @@
--- Values that fit the type of their field.
-use Rattle.std.proofs.Common.{ℕ, ℤ, List, [], ◌∷◌, Bool, Option, Some, None, option_map, option_and_then, refl, arith}
-use Rattle.std.specs.List.{AllByRecursion}
-use Rattle.std.specs.Str.{IsUtf8}
+-- Optional values that fit the type of their field.
+use Rattle.std.proofs.Common.{ℕ, ℤ, List, Option, Some, None, option_map, option_and_then}
 use Rattle.row_values.specs.declared.value.Value.{Value}
-use Rattle.avro_binary.specs.declared.datum.Datum.{Datum}
 use Rattle.avro_binary.specs.declared.datum.Datum.TheVariants as datum
-use Rattle.avro_binary.specs.Shape.{Shape, null_shape, boolean_shape, int_shape, long_shape, bytes_shape, text_shape, record_shape, array_shape, union_shape, Shapes, no_shapes, more_shapes}
-use Rattle.avro_binary.specs.Spelling.{IsSignedOf, Fits, FitsFields, FitsBranch}
-use Rattle.manifest_writer.specs.Value.{optional, optional_int, optional_long, optional_bound, bytes_inside, AreSignedOf}
-
-abbrev pub option_shape : Shape → Shape
-option_shape s = union_shape (more_shapes null_shape (more_shapes s no_shapes))
-
-pub text_fits : (bytes : List ℕ) → IsUtf8 bytes → Fits text_shape (datum.Text bytes)
-unfolding Fits
-text_fits bytes h = (bytes, h, refl)
-
-pub boolean_fits : (b : Bool) → Fits boolean_shape (datum.Boolean b)
-unfolding Fits
-boolean_fits b = (b, refl)
-
-pub int_fits : (n : ℤ) → IsSignedOf 31 n → Fits int_shape (datum.Int n)
-unfolding Fits
-int_fits n h = (n, h, refl)
-
-pub long_fits : (n : ℤ) → IsSignedOf 63 n → Fits long_shape (datum.Long n)
-unfolding Fits
-long_fits n h = (n, h, refl)
-
-pub bytes_fits : (bytes : List ℕ) → Fits bytes_shape (datum.Bytes bytes)
-unfolding Fits
-bytes_fits bytes = (bytes, refl)
-
-pub none_fits : (s : Shape) → Fits (option_shape s) (optional None)
-unfolding Fits FitsBranch
-none_fits s = (0, datum.Null, omega arith, refl, refl)
-
-pub some_fits : (s : Shape) (d : Datum) → Fits s d → Fits (option_shape s) (optional (Some d))
-unfolding Fits FitsBranch
-some_fits s d h = (1, d, omega arith, h, refl)
+use Rattle.avro_binary.specs.Shape.{int_shape, long_shape, bytes_shape}
+use Rattle.avro_binary.specs.Spelling.{Fits}
+use Rattle.row_writer.proofs.CallerLemmas.{option_shape, int_fits, long_fits, bytes_fits, none_fits, some_fits}
+use Rattle.manifest_writer.specs.Value.{optional_int, optional_long, optional_bound, bytes_inside, AreSignedOf}
+use Rattle.row_writer.specs.KindDatum.{optional}
 
 pub optional_int_fits : (n : Option ℤ) → AreSignedOf 31 n → Fits (option_shape int_shape) (optional_int n)
 optional_int_fits None h = none_fits int_shape
@@ -54,19 +22,3 @@ bytes_by (Some bytes) = some_fits bytes_shape (datum.Bytes bytes) (bytes_fits by
 
 pub optional_bound_fits : (bound : Option Value) → Fits (option_shape bytes_shape) (optional_bound bound)
 optional_bound_fits bound = bytes_by (option_and_then bytes_inside bound)
-
-pub no_field : FitsFields no_shapes []
-unfolding FitsFields
-no_field = refl
-
-pub more_fields : (s : Shape) (ss : Shapes) (d : Datum) (ds : List Datum) → Fits s d → FitsFields ss ds → FitsFields (more_shapes s ss) (d ∷ ds)
-unfolding FitsFields
-more_fields s ss d ds h hs = (d, ds, h, hs, refl)
-
-pub record_fits : (ss : Shapes) (ds : List Datum) → FitsFields ss ds → Fits (record_shape ss) (datum.Record ds)
-unfolding Fits
-record_fits ss ds h = (ds, h, refl)
-
-pub array_fits : (s : Shape) (ds : List Datum) → AllByRecursion (Fits s) ds → Fits (array_shape s) (datum.Array ds)
-unfolding Fits
-array_fits s ds h = (ds, h, refl)

@@ -1,5 +1,5 @@
 -- The kinds of the columns of which statistics are kept.
-use Rattle.std.proofs.Common.{◌≡◌, Bool, true, false, cond, ◌&&◌, List, [], ◌∷◌, refl, ap, ◌∙◌}
+use Rattle.std.proofs.Common.{◌≡◌, Bool, true, false, cond, List, [], ◌∷◌, refl, ap, ◌∙◌}
 use Rattle.std.specs.Prelude.{int_lt}
 use Rattle.std.specs.Ordering.{int_eq}
 use Rattle.std.specs.List.{list_all}
@@ -8,15 +8,11 @@ use Rattle.kind_values.specs.Bounds.{is_kind}
 use Rattle.manifest_files.specs.declared.known_column.KnownColumn.{KnownColumn}
 use Rattle.manifest_files.specs.Statistics.{with_column, with_columns, path_column, position_column, known_columns}
 use Rattle.manifest_files.proofs.CallerLemmas.{placed, with_is_placed}
-use Rattle.manifest_writer.proofs.FactLaws.{first, second}
+use Rattle.row_writer.proofs.CallerLemmas.{both, first, second}
 use Rattle.manifest_writer.proofs.PartLaws.{are_kinds}
 
 abbrev known_are : List KnownColumn → Bool
 known_are known = list_all (λ column. is_kind column.kind) known
-
-both : (a b : Bool) → a ≡ true → b ≡ true → (a && b) ≡ true
-both true b h k = k
-both false b h k = absurd cc
 
 placed_by : (column other : KnownColumn) (columns rest : List KnownColumn) (a b : Bool) → is_kind column.kind ≡ true
     → known_are (other ∷ columns) ≡ true → known_are rest ≡ true

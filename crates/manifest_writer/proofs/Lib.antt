@@ -17,10 +17,6 @@ mod ManifestMetas
 mod PartFits
 mod PartLaws
 mod PartPlans
-mod PlanNames
-mod PlanRoom
 mod PlanTypes
-mod Plans
-mod Powers
 mod RowsAgain
 mod ValueLaws

@@ -14,9 +14,8 @@ use Rattle.manifest_files.specs.declared.manifest_row.ManifestContent.TheVariant
 use Rattle.manifest_files.specs.declared.manifest_row.ManifestRow.{ManifestRow}
 use Rattle.manifest_writer.specs.ListTypes.{list_types}
 use Rattle.manifest_writer.specs.ListDatum.{content_number, datum_of_summary, partitions_value, datum_of_row, IsRow}
-use Rattle.manifest_writer.proofs.Plans.{Plan, boolean_plan, int_plan, long_plan, bytes_plan, text_plan, optional_plan, items_plan, record_plan, Plans, no_plans, more_plans, type_of, fold_plan, plan_folds}
-use Rattle.manifest_writer.proofs.PlanNames.{named_is}
-use Rattle.manifest_writer.proofs.FieldLaws.{option_shape, text_fits, boolean_fits, int_fits, long_fits, some_fits, optional_int_fits, optional_long_fits, optional_bound_fits, no_field, more_fields, record_fits, array_fits}
+use Rattle.row_writer.proofs.CallerLemmas.{Plan, boolean_plan, int_plan, long_plan, bytes_plan, text_plan, optional_plan, items_plan, record_plan, Plans, no_plans, more_plans, type_of, fold_plan, plan_folds, named_is, option_shape, text_fits, boolean_fits, int_fits, long_fits, some_fits, no_field, more_fields, record_fits, array_fits}
+use Rattle.manifest_writer.proofs.FieldLaws.{optional_int_fits, optional_long_fits, optional_bound_fits}
 
 abbrev pub summary_shape : Shape
 summary_shape = record_shape (more_shapes boolean_shape (more_shapes (option_shape bytes_shape) (more_shapes (option_shape bytes_shape) no_shapes)))

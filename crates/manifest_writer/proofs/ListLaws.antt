@@ -1,9 +1,9 @@
 -- The rows of a list that is written are read again.
-use Rattle.std.proofs.Common.{◌≡◌, ◌^◌, ◌<◌, ℤ, pos, List, [], ◌∷◌, ◌++◌, map, length, Bool, true, false, ◌&&◌, Option, Some, option_and_then, Result, Ok, refl, sym, ap, ◌∙◌, append_assoc}
+use Rattle.std.proofs.Common.{◌≡◌, ◌^◌, ◌<◌, ℤ, pos, List, [], ◌∷◌, ◌++◌, map, length, true, Option, Some, option_and_then, Result, Ok, refl, sym, ap, ◌∙◌, append_assoc}
 use Rattle.std.proofs.lemmas.List.{append-nil}
 use Rattle.std.proofs.lemmas.Str.{is_utf8-from_IsUtf8}
 use Rattle.std.specs.List.{AllByRecursion, list_all}
-use Rattle.plain_types.specs.Steps.{◌>>=◌, or_fault, fault_if, fault_as}
+use Rattle.plain_types.specs.Steps.{◌>>=◌, or_fault, fault_as}
 use Rattle.row_values.specs.declared.value.Value.{Value}
 use Rattle.kind_values.specs.declared.stats.Summary.{Summary}
 use Rattle.avro_binary.specs.declared.datum.Datum.{Datum, out-Datum}
@@ -31,15 +31,8 @@ use Rattle.manifest_writer.specs.Value.{is_count, is_bound}
 use Rattle.manifest_writer.proofs.PlanTypes.{goes}
 use Rattle.manifest_writer.proofs.ListFits.{rows_fit, list_has_text, list_takes_bytes, list_items_take_bytes}
 use Rattle.manifest_writer.proofs.ListPlaces.{summaries, list_places, list_places_is}
-use Rattle.manifest_writer.proofs.ValueLaws.{values_is, array_out, record_there, array_there, text_again, int_again, long_again, boolean_again, optional_long_again, file_count_again, row_count_again, bound_again}
-
-first : (a b : Bool) → (a && b) ≡ true → a ≡ true
-first true b h = refl
-first false b h = absurd cc
-
-second : (a b : Bool) → (a && b) ≡ true → b ≡ true
-second true b h = h
-second false b h = absurd cc
+use Rattle.manifest_writer.proofs.ValueLaws.{record_there, array_there, text_again, int_again, long_again, boolean_again, optional_long_again, file_count_again, row_count_again, bound_again}
+use Rattle.row_writer.proofs.CallerLemmas.{first, second, values_is, array_out}
 
 -- ---- summaries
 

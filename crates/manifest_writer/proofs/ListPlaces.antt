@@ -11,8 +11,8 @@ use Rattle.manifest_files.specs.declared.places.RowPlaces.{RowPlaces}
 use Rattle.manifest_files.specs.FieldTypes.{record_fields}
 use Rattle.manifest_files.specs.Places.{field_from, needed, optional, optional_items, fields_of_items, summary_fields, summary_places, row_places}
 use Rattle.manifest_writer.specs.ListTypes.{list_types}
-use Rattle.manifest_writer.proofs.Plans.{Plan, boolean_plan, int_plan, long_plan, bytes_plan, text_plan, optional_plan, items_plan, record_plan, types_of}
-use Rattle.manifest_writer.proofs.PlanTypes.{plan_out, items_is, fields_is, goes, needed_is, optional_is, optional_items_is}
+use Rattle.row_writer.proofs.CallerLemmas.{Plan, boolean_plan, int_plan, long_plan, bytes_plan, text_plan, optional_plan, items_plan, record_plan, types_of, plan_out}
+use Rattle.manifest_writer.proofs.PlanTypes.{items_is, fields_is, goes, needed_is, optional_is, optional_items_is}
 use Rattle.manifest_writer.proofs.ListFits.{summary_plans, list_plans, list_plan}
 
 abbrev pub summaries : SummaryPlaces

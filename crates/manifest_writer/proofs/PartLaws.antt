@@ -1,13 +1,12 @@
 -- A partition's values are read again.
-use Rattle.std.proofs.Common.{◌≡◌, ℕ, zero, suc, ◌+◌, ◌-◌, ◌*◌, ◌^◌, ◌<◌, ◌≤◌, ℤ, pos, negsuc, neg_ℤ, List, [], ◌∷◌, ◌++◌, length, Bool, true, false, cond, not, ◌&&◌, ◌||◌, nat_lt, nat_le, nat_eq, min, Option, Some, None, option_and_then, Result, Ok, Err, refl, sym, ap, ◌∙◌, append_assoc, arith}
-use Rattle.std.specs.Prelude.{◌==◌, slice_get}
+use Rattle.std.proofs.Common.{◌≡◌, ℕ, suc, ◌+◌, ◌-◌, ℤ, List, [], ◌∷◌, ◌++◌, length, Bool, true, false, cond, not, ◌&&◌, Option, Some, None, option_and_then, Result, Ok, Err, refl, sym, ap, ◌∙◌, append_assoc, arith}
+use Rattle.std.specs.Prelude.{slice_get}
 use Rattle.std.specs.Ordering.{int_eq}
 use Rattle.std.specs.List.{list_all}
 use Rattle.std.proofs.lemmas.Bool.Decides.{nat_tests}
 use Rattle.std.proofs.lemmas.Int.{ints}
 use Rattle.std.proofs.lemmas.List.{append-nil, length-append}
 use Rattle.std.proofs.lemmas.Option.{slice_get-get_or}
-use Rattle.std.proofs.Math.Nat.{pow-le-pow_right}
 use Rattle.std.proofs.Math.Seq.{get_or-append_seam}
 use Rattle.plain_types.specs.Steps.{◌>>=◌, or_fault, by_option}
 use Rattle.row_values.specs.declared.kind.Kind.{Kind}
@@ -18,20 +17,12 @@ use Rattle.row_values.specs.declared.schema.Column.{Column}
 use Rattle.row_values.specs.declared.partition.PartField.{PartField}
 use Rattle.row_values.specs.declared.partition.Transform.{Transform}
 use Rattle.row_values.specs.declared.partition.Transform.TheVariants as transform
-use Rattle.row_values.specs.Rows.{is_between, has_digits, is_value, is_null}
-use Rattle.kind_values.specs.BigEndian.{signed_of, is_negative, size_of, bytes_in}
-use Rattle.kind_values.proofs.CallerLemmas.{digits_length, enough, in_again}
+use Rattle.row_values.specs.Rows.{is_value, is_null}
 use Rattle.kind_values.specs.Bounds.{is_kind}
-use Rattle.kind_values.specs.KindValues.{of_kind, is_decimal_size, decimal_of}
 use Rattle.avro_binary.specs.declared.datum.Datum.{Datum, out-Datum}
-use Rattle.avro_binary.specs.declared.datum.MapPair.{MapPair}
-use Rattle.avro_binary.specs.declared.datum.Datum.TheOpen as open_datum
 use Rattle.avro_binary.specs.declared.datum.Datum.TheVariants as datum
 use Rattle.avro_binary.specs.declared.schema.Field.{Field}
-use Rattle.avro_binary.specs.declared.schema.Schema.{Schema, out-Schema}
-use Rattle.avro_binary.specs.declared.schema.Schema.TheOpen as open_schema
-use Rattle.avro_rows.specs.Carrier.{is_null_type, carries_bare, carries_level, carries}
-use Rattle.avro_rows.specs.DatumValue.{content_of, value_of}
+use Rattle.avro_rows.specs.DatumValue.{value_of}
 use Rattle.manifest_files.specs.declared.manifest_fault.ManifestFault.{ManifestFault}
 use Rattle.manifest_files.specs.declared.manifest_fault.ManifestFault.TheVariants as fault
 use Rattle.manifest_files.specs.declared.places.PartPlace.{PartPlace}
@@ -40,111 +31,16 @@ use Rattle.manifest_files.specs.Entries.{part_value, part_values}
 use Rattle.manifest_files.specs.PartitionKinds.{kind_given, kind_of_column, kind_of_field, carries_part}
 use Rattle.manifest_files.specs.Places.{field_from, part_place, part_places}
 use Rattle.manifest_files.specs.Sound.{is_part, are_parts}
-use Rattle.manifest_writer.specs.Field.{field}
+use Rattle.row_writer.specs.Field.{field}
 use Rattle.manifest_writer.specs.PartNames.{part_name}
-use Rattle.manifest_writer.specs.PartTypes.{decimal_size}
-use Rattle.manifest_writer.specs.PartDatum.{value_datum, part_datum, part_datums}
+use Rattle.manifest_writer.specs.PartDatum.{part_datum, part_datums}
+use Rattle.row_writer.specs.Names.{decimal_name}
+use Rattle.row_writer.specs.KindDatum.{value_datum, optional}
 use Rattle.manifest_writer.specs.Readable.{has_field, are_apart}
-use Rattle.manifest_writer.specs.Value.{optional}
-use Rattle.manifest_writer.proofs.Plans.{optional_plan, type_of, types_of}
-use Rattle.manifest_writer.proofs.PlanTypes.{out_plan, plan_out, null_out, goes}
-use Rattle.manifest_writer.proofs.PartPlans.{kind_plan, part_plan, part_plans}
-use Rattle.manifest_writer.proofs.FactLaws.{first, second}
-use Rattle.manifest_writer.proofs.ValueLaws.{boolean_out, int_out, long_out, bytes_out, text_out, fixed_out, branch, null_absent}
-
--- ---- sizes of decimals
-
-digits_kept : (precision : ℕ) → precision ≤ 38 → min precision 38 ≡ precision
-digits_kept precision few = omega arith
-
-pub few_digits : (precision scale : ℕ) → is_kind (kind.Decimal precision scale) ≡ true → precision ≤ 38
-few_digits precision scale sound =
-    let test : nat_le precision 38 ≡ true = first (nat_le precision 38) (nat_le scale precision) (second (nat_le 1 precision) (nat_le precision 38 && nat_le scale precision) sound) in
-    grind (arith, nat_tests)
-
-most_digits : (precision : ℕ) → 10 ^ min precision 38 ≤ 10 ^ 38
-most_digits precision = let le : min precision 38 ≤ 38 = omega arith in pow-le-pow_right (omega arith) le
-
--- a size of 1 to 16 bytes, which hold the digits
-pub size_is : (precision : ℕ) → (k : ℕ) × (decimal_size precision ≡ suc k) × (k ≤ 15) × (10 ^ min precision 38 - 1 < 128 * 256 ^ k)
-size_is precision =
-    let most : 10 ^ min precision 38 ≤ 10 ^ 38 = most_digits precision in
-    enough 15 (10 ^ min precision 38 - 1) (omega arith)
-
-pub size_holds : (precision : ℕ) → is_decimal_size (decimal_size precision) ≡ true
-size_holds precision =
-    let s = size_is precision in
-    let k : ℕ = s.0 in
-    let is : decimal_size precision ≡ suc k = s.1 in
-    let few : k ≤ 15 = s.2 in
-    let some : nat_lt 0 (suc k) ≡ true = grind (arith, nat_tests) in
-    let less : nat_lt (suc k) 17 ≡ true = grind (arith, nat_tests) in
-    ap is_decimal_size is ∙ ap (λ (b : Bool). b && nat_lt (suc k) 17) some ∙ less
-
-between_size : (bound : ℕ) (n : ℤ) → is_between (neg_ℤ (pos bound)) (pos bound) n ≡ true → size_of n ≤ bound
-between_size zero (pos n) h = grind (arith, nat_tests)
-between_size (suc bound) (pos n) h = grind (arith, nat_tests)
-between_size zero (negsuc n) h = absurd cc
-between_size (suc bound) (negsuc n) h = grind (arith, nat_tests)
-
-sized_by : (size k : ℕ) (n : ℤ) → size ≡ suc k → size_of n < 128 * 256 ^ k → signed_of (bytes_in size n) ≡ n
-sized_by size k n is lt = ap (λ (m : ℕ). signed_of (bytes_in m n)) is ∙ in_again k n lt
-
-amount_read : (precision : ℕ) (n : ℤ) → precision ≤ 38 → has_digits precision n ≡ true → signed_of (bytes_in (decimal_size precision) n) ≡ n
-amount_read precision n few h =
-    let s = size_is precision in
-    let kept : min precision 38 ≡ precision = digits_kept precision few in
-    let bound : 10 ^ min precision 38 ≡ 10 ^ precision = ap (λ (m : ℕ). 10 ^ m) kept in
-    let size : size_of n ≤ 10 ^ precision - 1 = between_size (10 ^ precision - 1) n h in
-    let k : ℕ = s.0 in
-    let lt : 10 ^ min precision 38 - 1 < 128 * 256 ^ k = s.3 in
-    sized_by (decimal_size precision) k n s.1 (omega arith)
-
-same_scale : (s scale : ℕ) → (s == scale) ≡ true → s ≡ scale
-same_scale s scale h = grind (arith, nat_tests)
-
-abbrev amount : List ℕ → ℕ → Option Value
-amount bytes scale = Some (value.Decimal (signed_of bytes) scale)
-
-amount_again : (precision scale : ℕ) (n : ℤ) (s : ℕ) → precision ≤ 38 → has_digits precision n ≡ true → (s == scale) ≡ true
-    → decimal_of scale (bytes_in (decimal_size precision) n) ≡ Some (value.Decimal n s)
-amount_again precision scale n s few digits same =
-    ap (λ (size : ℕ). cond (is_decimal_size size) (amount (bytes_in (decimal_size precision) n) scale) None) (digits_length (is_negative n) (decimal_size precision) (size_of n))
-    ∙ ap (λ (b : Bool). cond b (amount (bytes_in (decimal_size precision) n) scale) None) (size_holds precision)
-    ∙ ap (λ (m : ℤ). (let o : Option Value = Some (value.Decimal m scale) in o)) (amount_read precision n few digits) ∙ ap (λ (m : ℕ). (let o : Option Value = Some (value.Decimal n m) in o)) (sym (same_scale s scale same))
-
--- ---- a value
-
-abbrev Reads : Kind → Value → Datum → Type 0
-Reads k v d = (present_in (optional (Some d)) ≡ Some d) × (value_of k d ≡ Some v)
-
-kept : (k : Kind) (v : Value) → is_value k v ≡ true → of_kind k v ≡ Some v
-kept k v h = ap (λ (b : Bool). (let o : Option Value = cond b (Some v) None in o)) h
-
-reads_by : (k : Kind) (v : Value) (d : Datum) (x : open_datum.Datum-F Datum MapPair) → out-Datum d ≡ x
-    → present_in (optional (Some d)) ≡ Some d → content_of k x ≡ Some v → is_value k v ≡ true → Reads k v d
-reads_by k v d x out there content h = (there, ap (λ (y : open_datum.Datum-F Datum MapPair). option_and_then (of_kind k) (content_of k y)) out ∙ ap (option_and_then (of_kind k)) content ∙ kept k v h)
-
-value_read : (k : Kind) (v : Value) → is_kind k ≡ true → is_value k v ≡ true → Reads k v (value_datum k v)
-value_read kind.Bool (value.Bool b) sound h = reads_by kind.Bool (value.Bool b) (datum.Boolean b) (open_datum.Boolean b) (boolean_out b) (branch (datum.Boolean b) (open_datum.Boolean b) (boolean_out b) refl) refl h
-value_read kind.Bool v sound h = absurd cc
-value_read kind.Int (value.Int n) sound h = reads_by kind.Int (value.Int n) (datum.Int n) (open_datum.Int n) (int_out n) (branch (datum.Int n) (open_datum.Int n) (int_out n) refl) refl h
-value_read kind.Int v sound h = absurd cc
-value_read kind.Long (value.Long n) sound h = reads_by kind.Long (value.Long n) (datum.Long n) (open_datum.Long n) (long_out n) (branch (datum.Long n) (open_datum.Long n) (long_out n) refl) refl h
-value_read kind.Long v sound h = absurd cc
-value_read kind.Date (value.Date n) sound h = reads_by kind.Date (value.Date n) (datum.Int n) (open_datum.Int n) (int_out n) (branch (datum.Int n) (open_datum.Int n) (int_out n) refl) refl h
-value_read kind.Date v sound h = absurd cc
-value_read (kind.Timestamp utc) (value.Timestamp n) sound h = reads_by (kind.Timestamp utc) (value.Timestamp n) (datum.Long n) (open_datum.Long n) (long_out n) (branch (datum.Long n) (open_datum.Long n) (long_out n) refl) refl h
-value_read (kind.Timestamp utc) v sound h = absurd cc
-value_read (kind.Decimal precision scale) (value.Decimal n s) sound h =
-    let bytes : List ℕ = bytes_in (decimal_size precision) n in
-    reads_by (kind.Decimal precision scale) (value.Decimal n s) (datum.Fixed bytes) (open_datum.Fixed bytes) (fixed_out bytes) (branch (datum.Fixed bytes) (open_datum.Fixed bytes) (fixed_out bytes) refl)
-    (amount_again precision scale n s (few_digits precision scale sound) (second (s == scale) (has_digits precision n) h) (first (s == scale) (has_digits precision n) h)) h
-value_read (kind.Decimal precision scale) v sound h = absurd cc
-value_read kind.Text (value.Text bytes) sound h = reads_by kind.Text (value.Text bytes) (datum.Text bytes) (open_datum.Text bytes) (text_out bytes) (branch (datum.Text bytes) (open_datum.Text bytes) (text_out bytes) refl) refl h
-value_read kind.Text v sound h = absurd cc
-value_read kind.Bytes (value.Bytes bytes) sound h = reads_by kind.Bytes (value.Bytes bytes) (datum.Bytes bytes) (open_datum.Bytes bytes) (bytes_out bytes) (branch (datum.Bytes bytes) (open_datum.Bytes bytes) (bytes_out bytes) refl) refl h
-value_read kind.Bytes v sound h = absurd cc
+use Rattle.row_writer.proofs.CallerLemmas.{value_read, optional_carried, turned, not_false, no_column_here, type_of, types_of, first, second}
+use Rattle.manifest_writer.proofs.PlanTypes.{goes}
+use Rattle.manifest_writer.proofs.PartPlans.{part_plan, part_plans}
+use Rattle.manifest_writer.proofs.ValueLaws.{branch, null_absent}
 
 -- the kind of a field's values, where there is one
 abbrev pub is_sound : Option Kind → Bool
@@ -157,7 +53,8 @@ read_by id k found = by_option found (λ d. or_fault (fault.Kind id) (option_and
 some_read : (id : ℤ) (k : Kind) (v : Value) → is_kind k ≡ true → is_value k v ≡ true → read_by id (Some k) (present_in (part_datum (Some k) v)) ≡ Ok v
 some_read id k v sound h =
     let r = value_read k v sound h in
-    ap (λ (b : Bool). read_by id (Some k) (present_in (cond b (optional (Some (value_datum k v))) (optional None)))) h ∙ ap (read_by id (Some k)) r.0 ∙ ap (or_fault (fault.Kind id)) r.1
+    let d : Datum = value_datum k v in
+    ap (λ (b : Bool). read_by id (Some k) (present_in (cond b (optional (Some (value_datum k v))) (optional None)))) h ∙ ap (read_by id (Some k)) (branch d (out-Datum d) refl r.some) ∙ ap (or_fault (fault.Kind id)) r.has
 
 null_is_none : (k : Kind) → is_value k value.Null ≡ false
 null_is_none kind.Bool = refl
@@ -223,42 +120,15 @@ parts_again columns whole front n earlier (part ∷ parts) (v ∷ vs) is at soun
 
 -- ---- where the fields stand
 
-same_test : (n : ℕ) → nat_eq n n ≡ true
-same_test n = grind (arith, nat_tests)
-
-bare : (k : Kind) → carries_bare k (out_plan (kind_plan k)) ≡ true
-bare kind.Bool = refl
-bare kind.Int = refl
-bare kind.Long = refl
-bare kind.Date = refl
-bare (kind.Timestamp utc) = refl
-bare (kind.Decimal precision scale) = ap (λ (b : Bool). b && nat_eq scale scale) (size_holds precision) ∙ same_test scale
-bare kind.Text = refl
-bare kind.Bytes = refl
-
-abbrev branch_by : Kind → open_schema.Schema-F Schema Field → open_schema.Schema-F Schema Field → Bool
-branch_by k a b = cond (is_null_type a) (carries_bare k b) (cond (is_null_type b) (carries_bare k a) false)
-
-kind_carried : (k : Kind) → carries k (type_of (optional_plan (kind_plan k))) ≡ true
-kind_carried k = ap (carries_level k) (plan_out (optional_plan (kind_plan k))) ∙ ap (λ (a : open_schema.Schema-F Schema Field). branch_by k a (out-Schema (type_of (kind_plan k)))) null_out
-    ∙ ap (carries_bare k) (plan_out (kind_plan k)) ∙ bare k
-
-carried : (k : Option Kind) → carries_part k (type_of (part_plan k)) ≡ true
-carried None = refl
-carried (Some k) = kind_carried k
+carried : (name : List ℕ) (k : Option Kind) → carries_part k (type_of (part_plan name k)) ≡ true
+carried name None = refl
+carried name (Some k) = optional_carried name k
 
 abbrev field_for : List Column → Bool → PartField → Field
-field_for columns keeps part = field part.field (part_name keeps part) (type_of (part_plan (kind_of_field columns part)))
+field_for columns keeps part = field part.field (part_name keeps part) (type_of (part_plan (decimal_name part.field) (kind_of_field columns part)))
 
 same_id : (n : ℤ) → int_eq n n ≡ true
 same_id n = grind (arith, ints, nat_tests)
-
-turned : (a b : ℤ) → int_eq a b ≡ false → int_eq b a ≡ false
-turned a b h = grind (arith, ints, nat_tests)
-
-no_longer : (b : Bool) → not b ≡ true → b ≡ false
-no_longer true h = absurd cc
-no_longer false h = refl
 
 -- none of these fields has the id
 abbrev lack : ℤ → List PartField → Bool
@@ -274,7 +144,7 @@ unfolding field_from
 found_from columns keeps [] part parts n h =
     ap (λ (b : Bool). found_by b (n, field_for columns keeps part) (field_from part.field (n + 1) (types_of (part_plans columns keeps parts)))) (same_id part.field) ∙ ap (λ (m : ℕ). (let o : Option (ℕ × Field) = Some (m, field_for columns keeps part) in o)) (omega arith)
 found_from columns keeps (other ∷ front) part parts n h =
-    ap (λ (b : Bool). found_by b (n, field_for columns keeps other) (field_from part.field (n + 1) (types_of (part_plans columns keeps (front ++ part ∷ parts))))) (no_longer (int_eq other.field part.field) (first (not (int_eq other.field part.field)) (lack part.field front) h))
+    ap (λ (b : Bool). found_by b (n, field_for columns keeps other) (field_from part.field (n + 1) (types_of (part_plans columns keeps (front ++ part ∷ parts))))) (not_false (int_eq other.field part.field) (first (not (int_eq other.field part.field)) (lack part.field front) h))
     ∙ found_from columns keeps front part parts (n + 1) (second (not (int_eq other.field part.field)) (lack part.field front) h) ∙ ap (λ (m : ℕ). (let o : Option (ℕ × Field) = Some (m, field_for columns keeps part) in o)) (omega arith)
 
 abbrev place_by : List Column → PartField → Option (ℕ × Field) → Result PartPlace ManifestFault
@@ -288,7 +158,7 @@ place_found : (columns : List Column) (keeps : Bool) (front : List PartField) (p
     → part_place columns (types_of (part_plans columns keeps (front ++ part ∷ parts))) part ≡ here_at columns part (length front)
 place_found columns keeps front part parts h =
     ap (place_by columns part) (found_from columns keeps front part parts 0 h)
-    ∙ ap (λ (b : Bool). cond b (here_at columns part (0 + length front)) (Err (fault.Kind part.field))) (carried (kind_of_field columns part))
+    ∙ ap (λ (b : Bool). cond b (here_at columns part (0 + length front)) (Err (fault.Kind part.field))) (carried (decimal_name part.field) (kind_of_field columns part))
     ∙ ap (here_at columns part) (omega arith)
 
 -- no field of the second list has the id of one of the first
@@ -299,15 +169,11 @@ lack_more : (id : ℤ) (front : List PartField) (part : PartField) → lack id f
 lack_more id [] part h e = ap (λ (b : Bool). not b && true) e
 lack_more id (other ∷ front) part h e = ap (λ (b : Bool). b && lack id (front ++ part ∷ [])) (first (not (int_eq other.field id)) (lack id front) h) ∙ lack_more id front part (second (not (int_eq other.field id)) (lack id front) h) e
 
-no_field_here : (b others : Bool) → not (b || others) ≡ true → (b ≡ false) × (not others ≡ true)
-no_field_here true others h = absurd cc
-no_field_here false others h = (refl, h)
-
 apart_more : (front : List PartField) (part : PartField) (parts : List PartField) → apart_from front parts ≡ true
     → not (has_field part.field parts) ≡ true → apart_from (front ++ part ∷ []) parts ≡ true
 apart_more front part [] h new = refl
 apart_more front part (other ∷ parts) h new =
-    let here = no_field_here (int_eq other.field part.field) (has_field part.field parts) new in
+    let here = no_column_here (int_eq other.field part.field) (has_field part.field parts) new in
     ap (λ (b : Bool). b && apart_from (front ++ part ∷ []) parts) (lack_more other.field front part (first (lack other.field front) (apart_from front parts) h) (turned other.field part.field here.0)) ∙ apart_more front part parts (second (lack other.field front) (apart_from front parts) h) here.1
 
 one_part_more : (front : List PartField) (part : PartField) → length (front ++ part ∷ []) ≡ suc (length front)

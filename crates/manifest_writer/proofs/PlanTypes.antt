@@ -1,12 +1,11 @@
 -- The places of the fields of a type that is put together.
-use Rattle.std.proofs.Common.{◌≡◌, ℕ, ℤ, List, [], ◌∷◌, Bool, true, false, cond, Option, Some, None, option_map, option_and_then, Result, Ok, Err, sym, ap, ◌∙◌}
+use Rattle.std.proofs.Common.{◌≡◌, ℕ, ℤ, List, [], Bool, true, false, cond, Option, Some, None, option_map, option_and_then, Result, Ok, Err, ap, ◌∙◌}
 use Rattle.plain_types.specs.Steps.{◌>>=◌, or_fault, by_option}
 use Rattle.avro_binary.specs.declared.schema.Field.{Field}
 use Rattle.avro_binary.specs.declared.schema.Schema.{Schema, out-Schema}
 use Rattle.avro_binary.specs.declared.schema.Schema.TheOpen as open_schema
 use Rattle.avro_binary.specs.declared.schema.Schema.TheVariants as schema
-use Rattle.avro_binary.specs.declared.schema.Schema.TheViews.{out-roll-Schema}
-use Rattle.avro_binary.specs.declared.schema.Logical.TheVariants.{Plain, Date, TimestampMicros, Decimal}
+use Rattle.avro_binary.specs.declared.schema.Logical.TheVariants.{Plain, Date}
 use Rattle.avro_rows.specs.Carrier.{is_null_type}
 use Rattle.avro_rows.specs.Sources.{fields_level, fields_of}
 use Rattle.manifest_files.specs.declared.field_type.FieldType.{FieldType}
@@ -16,40 +15,8 @@ use Rattle.manifest_files.specs.FieldTypes.{stated_level, stated, is_type, has_t
 use Rattle.manifest_files.specs.declared.field_type.FieldType.TheVariants as type
 use Rattle.manifest_files.specs.declared.places.PairPlaces.{PairPlaces}
 use Rattle.manifest_files.specs.Places.{field_at, typed, needed, optional, optional_items, typed_at, pairs_in, no_pairs, pairs}
-use Rattle.manifest_writer.specs.Field.{field}
-use Rattle.manifest_writer.proofs.Plans.{Plan, boolean_plan, int_plan, long_plan, bytes_plan, text_plan, date_plan, instant_plan, decimal_plan, pairs_plan, optional_plan, items_plan, record_plan, Plans, type_of, types_of}
-use Rattle.manifest_writer.specs.PartTypes.{decimal_size, decimal_name}
-
-abbrev pub out_plan : Plan → open_schema.Schema-F Schema Field
-out_plan boolean_plan = open_schema.Boolean
-out_plan int_plan = open_schema.Int Plain
-out_plan long_plan = open_schema.Long Plain
-out_plan bytes_plan = open_schema.Bytes Plain
-out_plan text_plan = open_schema.Text
-out_plan date_plan = open_schema.Int Date
-out_plan (instant_plan utc) = open_schema.Long (TimestampMicros utc)
-out_plan (decimal_plan precision scale) = open_schema.Fixed (decimal_name precision scale) (decimal_size precision) (Decimal precision scale)
-out_plan (pairs_plan p) = open_schema.Array (type_of p) None true
-out_plan (optional_plan p) = open_schema.Union (schema.Null ∷ type_of p ∷ [])
-out_plan (items_plan element p) = open_schema.Array (type_of p) (Some element) false
-out_plan (record_plan name ps) = open_schema.Record name (types_of ps)
-
-pub plan_out : (p : Plan) → out-Schema (type_of p) ≡ out_plan p
-plan_out boolean_plan = ap out-Schema (sym schema.rolls-Boolean) ∙ out-roll-Schema open_schema.Boolean
-plan_out int_plan = ap out-Schema (sym (schema.rolls-Int Plain)) ∙ out-roll-Schema (open_schema.Int Plain)
-plan_out long_plan = ap out-Schema (sym (schema.rolls-Long Plain)) ∙ out-roll-Schema (open_schema.Long Plain)
-plan_out bytes_plan = ap out-Schema (sym (schema.rolls-Bytes Plain)) ∙ out-roll-Schema (open_schema.Bytes Plain)
-plan_out text_plan = ap out-Schema (sym schema.rolls-Text) ∙ out-roll-Schema open_schema.Text
-plan_out date_plan = ap out-Schema (sym (schema.rolls-Int Date)) ∙ out-roll-Schema (open_schema.Int Date)
-plan_out (instant_plan utc) = ap out-Schema (sym (schema.rolls-Long (TimestampMicros utc))) ∙ out-roll-Schema (open_schema.Long (TimestampMicros utc))
-plan_out (decimal_plan precision scale) = ap out-Schema (sym (schema.rolls-Fixed (decimal_name precision scale) (decimal_size precision) (Decimal precision scale))) ∙ out-roll-Schema (open_schema.Fixed (decimal_name precision scale) (decimal_size precision) (Decimal precision scale))
-plan_out (pairs_plan p) = ap out-Schema (sym (schema.rolls-Array (type_of p) None true)) ∙ out-roll-Schema (open_schema.Array (type_of p) None true)
-plan_out (optional_plan p) = ap out-Schema (sym (schema.rolls-Union (schema.Null ∷ type_of p ∷ []))) ∙ out-roll-Schema (open_schema.Union (schema.Null ∷ type_of p ∷ []))
-plan_out (items_plan element p) = ap out-Schema (sym (schema.rolls-Array (type_of p) (Some element) false)) ∙ out-roll-Schema (open_schema.Array (type_of p) (Some element) false)
-plan_out (record_plan name ps) = ap out-Schema (sym (schema.rolls-Record name (types_of ps))) ∙ out-roll-Schema (open_schema.Record name (types_of ps))
-
-pub null_out : out-Schema schema.Null ≡ open_schema.Null
-null_out = ap out-Schema (sym schema.rolls-Null) ∙ out-roll-Schema open_schema.Null
+use Rattle.row_writer.specs.Field.{field}
+use Rattle.row_writer.proofs.CallerLemmas.{out_plan, plan_out, null_type_out, Plan, boolean_plan, int_plan, long_plan, bytes_plan, text_plan, date_plan, instant_plan, decimal_plan, pairs_plan, optional_plan, items_plan, record_plan, Plans, type_of, types_of}
 
 -- the plan beside null, or alone
 abbrev pub inner : Plan → Plan
@@ -64,9 +31,9 @@ stated_is bytes_plan = ap (stated_level (schema.Bytes Plain)) (plan_out bytes_pl
 stated_is text_plan = ap (stated_level schema.Text) (plan_out text_plan)
 stated_is date_plan = ap (stated_level (schema.Int Date)) (plan_out date_plan)
 stated_is (instant_plan utc) = ap (stated_level (type_of (instant_plan utc))) (plan_out (instant_plan utc))
-stated_is (decimal_plan precision scale) = ap (stated_level (type_of (decimal_plan precision scale))) (plan_out (decimal_plan precision scale))
+stated_is (decimal_plan name precision scale) = ap (stated_level (type_of (decimal_plan name precision scale))) (plan_out (decimal_plan name precision scale))
 stated_is (pairs_plan p) = ap (stated_level (type_of (pairs_plan p))) (plan_out (pairs_plan p))
-stated_is (optional_plan p) = ap (stated_level (type_of (optional_plan p))) (plan_out (optional_plan p)) ∙ ap (λ (x : open_schema.Schema-F Schema Field). cond (is_null_type x) (type_of p) (cond (is_null_type (out-Schema (type_of p))) schema.Null (type_of (optional_plan p)))) null_out
+stated_is (optional_plan p) = ap (stated_level (type_of (optional_plan p))) (plan_out (optional_plan p)) ∙ ap (λ (x : open_schema.Schema-F Schema Field). cond (is_null_type x) (type_of p) (cond (is_null_type (out-Schema (type_of p))) schema.Null (type_of (optional_plan p)))) null_type_out
 stated_is (items_plan element p) = ap (stated_level (type_of (items_plan element p))) (plan_out (items_plan element p))
 stated_is (record_plan name ps) = ap (stated_level (type_of (record_plan name ps))) (plan_out (record_plan name ps))
 

@@ -1,9 +1,9 @@
 -- The rows that are read of a manifest list can be listed again.
-use Rattle.std.proofs.Common.{◌≡◌, ℕ, ℤ, pos, Bool, true, false, ◌&&◌, List, [], ◌∷◌, ◌++◌, Option, Some, None, option_map, option_and_then, Result, Ok, Err, refl, sym, ap, subst, ◌∙◌}
+use Rattle.std.proofs.Common.{◌≡◌, ℕ, ℤ, pos, Bool, true, false, List, [], ◌∷◌, ◌++◌, Option, Some, None, option_map, option_and_then, Result, Ok, refl, sym, ap, ◌∙◌}
 use Rattle.std.specs.Prelude.{int_le, is_some, if◌then◌else◌}
 use Rattle.std.specs.List.{list_all}
 use Rattle.std.proofs.lemmas.List.Folds.{list_all-append}
-use Rattle.plain_types.specs.Steps.{◌>>=◌, fault_as, fault_if, or_fault}
+use Rattle.plain_types.specs.Steps.{fault_as, fault_if, or_fault}
 use Rattle.row_values.specs.declared.value.Value.TheVariants as value
 use Rattle.kind_values.specs.declared.stats.Summary.{Summary}
 use Rattle.avro_binary.specs.declared.datum.Datum.{Datum}
@@ -18,14 +18,11 @@ use Rattle.manifest_files.specs.declared.manifest_row.RowHead.{RowHead}
 use Rattle.manifest_files.specs.declared.places.RowPlaces.{RowPlaces}
 use Rattle.manifest_files.specs.declared.places.SummaryPlaces.{SummaryPlaces}
 use Rattle.manifest_files.specs.Datums.{boolean_in, bytes_in, int_in, items_at, long_in, present, present_at, present_in}
-use Rattle.manifest_files.specs.Lists.{bound_at, file_count, not_negative, row_count, row_head, row_of, rows_from, rows_of_list, summaries_from, summary_of, whole_row}
+use Rattle.manifest_files.specs.Lists.{bound_at, not_negative, row_head, row_of, rows_from, rows_of_list, summaries_from, summary_of, whole_row}
 use Rattle.manifest_files.specs.Places.{row_places}
+use Rattle.row_writer.proofs.CallerLemmas.{both}
 use Rattle.manifest_writer.specs.ListDatum.{counts, has_bounds, is_listed}
 use Rattle.manifest_writer.specs.Value.{is_bound, is_count}
-
-pub both : (a b : Bool) → a ≡ true → b ≡ true → (a && b) ≡ true
-both true b h k = k
-both false b h k = absurd cc
 
 one_value : {X : Type 0} (a b : X) → (let r : Result X ManifestFault = Ok a in r) ≡ Ok b → a ≡ b
 one_value a b h = cc

@@ -1,5 +1,5 @@
 -- Values of fields that are written are read again.
-use Rattle.std.proofs.Common.{◌≡◌, ℕ, ℤ, List, Bool, true, false, Option, Some, None, option_map, option_and_then, Ok, refl, sym, ap, ◌∙◌}
+use Rattle.std.proofs.Common.{◌≡◌, ℕ, ℤ, List, Bool, true, false, Option, Some, None, option_map, option_and_then, Ok, refl, ap, ◌∙◌}
 use Rattle.std.specs.Prelude.{if◌then◌else◌}
 use Rattle.std.specs.Str.{is_utf8}
 use Rattle.plain_types.specs.Steps.{or_fault}
@@ -9,46 +9,13 @@ use Rattle.avro_binary.specs.declared.datum.Datum.{Datum, out-Datum}
 use Rattle.avro_binary.specs.declared.datum.MapPair.{MapPair}
 use Rattle.avro_binary.specs.declared.datum.Datum.TheOpen as open_datum
 use Rattle.avro_binary.specs.declared.datum.Datum.TheVariants as datum
-use Rattle.avro_binary.specs.declared.datum.Datum.TheViews.{out-roll-Datum}
 use Rattle.avro_rows.specs.DatumValue.{inside_level, inside, is_null_datum}
-use Rattle.avro_rows.specs.Rows.{values_level, values_of}
 use Rattle.manifest_files.specs.declared.manifest_fault.ManifestFault.{ManifestFault}
 use Rattle.manifest_files.specs.Datums.{present_in, int_level, int_in, long_level, long_in, boolean_level, boolean_in, bytes_level, bytes_in, text_level, text_in, as_text}
 use Rattle.manifest_files.specs.Lists.{not_negative}
-use Rattle.manifest_writer.specs.Value.{optional, optional_int, optional_long, bytes_inside, optional_bound, is_count, is_bound}
-
-pub null_out : out-Datum datum.Null ≡ open_datum.Null
-null_out = ap out-Datum (sym datum.rolls-Null) ∙ out-roll-Datum open_datum.Null
-
-pub boolean_out : (b : Bool) → out-Datum (datum.Boolean b) ≡ open_datum.Boolean b
-boolean_out b = ap out-Datum (sym (datum.rolls-Boolean b)) ∙ out-roll-Datum (open_datum.Boolean b)
-
-pub int_out : (n : ℤ) → out-Datum (datum.Int n) ≡ open_datum.Int n
-int_out n = ap out-Datum (sym (datum.rolls-Int n)) ∙ out-roll-Datum (open_datum.Int n)
-
-pub long_out : (n : ℤ) → out-Datum (datum.Long n) ≡ open_datum.Long n
-long_out n = ap out-Datum (sym (datum.rolls-Long n)) ∙ out-roll-Datum (open_datum.Long n)
-
-pub bytes_out : (bytes : List ℕ) → out-Datum (datum.Bytes bytes) ≡ open_datum.Bytes bytes
-bytes_out bytes = ap out-Datum (sym (datum.rolls-Bytes bytes)) ∙ out-roll-Datum (open_datum.Bytes bytes)
-
-pub text_out : (bytes : List ℕ) → out-Datum (datum.Text bytes) ≡ open_datum.Text bytes
-text_out bytes = ap out-Datum (sym (datum.rolls-Text bytes)) ∙ out-roll-Datum (open_datum.Text bytes)
-
-pub fixed_out : (bytes : List ℕ) → out-Datum (datum.Fixed bytes) ≡ open_datum.Fixed bytes
-fixed_out bytes = ap out-Datum (sym (datum.rolls-Fixed bytes)) ∙ out-roll-Datum (open_datum.Fixed bytes)
-
-pub record_out : (ds : List Datum) → out-Datum (datum.Record ds) ≡ open_datum.Record ds
-record_out ds = ap out-Datum (sym (datum.rolls-Record ds)) ∙ out-roll-Datum (open_datum.Record ds)
-
-pub array_out : (ds : List Datum) → out-Datum (datum.Array ds) ≡ open_datum.Array ds
-array_out ds = ap out-Datum (sym (datum.rolls-Array ds)) ∙ out-roll-Datum (open_datum.Array ds)
-
-pub union_out : (n : ℕ) (d : Datum) → out-Datum (datum.Union n d) ≡ open_datum.Union n d
-union_out n d = ap out-Datum (sym (datum.rolls-Union n d)) ∙ out-roll-Datum (open_datum.Union n d)
-
-pub values_is : (ds : List Datum) → values_of (datum.Record ds) ≡ ds
-values_is ds = ap values_level (record_out ds)
+use Rattle.row_writer.proofs.CallerLemmas.{null_out, boolean_out, int_out, long_out, bytes_out, text_out, record_out, array_out, union_out}
+use Rattle.manifest_writer.specs.Value.{optional_int, optional_long, bytes_inside, optional_bound, is_count, is_bound}
+use Rattle.row_writer.specs.KindDatum.{optional}
 
 -- ---- what is there
 

@@ -17,7 +17,8 @@ use Rattle.manifest_writer.specs.EntryTypes.{entry_types}
 use Rattle.manifest_writer.specs.Facts.{fact_value, HasIds}
 use Rattle.manifest_writer.specs.ManifestMeta.{manifest_meta}
 use Rattle.manifest_writer.specs.PartDatum.{part_datums}
-use Rattle.manifest_writer.specs.Value.{optional, optional_long, optional_text, AreSignedOf, AreUtf8, count_number}
+use Rattle.manifest_writer.specs.Value.{optional_long, optional_text, AreSignedOf, AreUtf8, count_number}
+use Rattle.row_writer.specs.KindDatum.{optional}
 
 -- 0 is an existing file, 1 an added one, any other a deleted one
 abbrev pub status_number : ℕ → ℤ

@@ -9,7 +9,7 @@ use Rattle.row_values.specs.declared.partition.Spec.{Spec}
 use Rattle.manifest_writer.specs.declared.fact.Fact.TheVariants as fact
 use Rattle.manifest_writer.specs.Facts.{fact_field}
 use Rattle.manifest_writer.specs.PartTypes.{part_fields}
-use Rattle.manifest_writer.specs.Field.{field, optional_type, items_type, record_type}
+use Rattle.row_writer.specs.Field.{field, optional_type, items_type, record_type}
 
 abbrev pub optional_long : ℤ → List ℕ → Field
 optional_long id name = field id name (optional_type (schema.Long Plain))

@@ -15,8 +15,9 @@ use Rattle.avro_binary.specs.declared.schema.Logical.TheVariants.{Plain}
 use Rattle.avro_binary.specs.Spelling.{IsSignedOf}
 use Rattle.manifest_writer.specs.declared.fact.Fact.{Fact}
 use Rattle.manifest_writer.specs.declared.fact.Fact.TheVariants as fact
-use Rattle.manifest_writer.specs.Field.{field, optional_type, map_type, record_type}
-use Rattle.manifest_writer.specs.Value.{optional, count_number}
+use Rattle.row_writer.specs.Field.{field, optional_type, map_type, record_type}
+use Rattle.manifest_writer.specs.Value.{count_number}
+use Rattle.row_writer.specs.KindDatum.{optional}
 
 -- ---- types
 

@@ -1,7 +1,6 @@
 pub mod EntryDatum
 pub mod EntryTypes
 pub mod Facts
-pub mod Field
 pub mod ListDatum
 pub mod ListTypes
 pub mod ManifestMeta

@@ -4,7 +4,7 @@ use Rattle.avro_binary.specs.declared.schema.Field.{Field}
 use Rattle.avro_binary.specs.declared.schema.Schema.{Schema}
 use Rattle.avro_binary.specs.declared.schema.Schema.TheVariants as schema
 use Rattle.avro_binary.specs.declared.schema.Logical.TheVariants.{Plain}
-use Rattle.manifest_writer.specs.Field.{field, optional_type, items_type, record_type}
+use Rattle.row_writer.specs.Field.{field, optional_type, items_type, record_type}
 
 -- what each row has, and the length of its manifest
 abbrev pub head_fields : List Field

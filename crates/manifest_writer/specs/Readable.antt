@@ -1,10 +1,9 @@
 -- Entries that a manifest holds whole, so that they are read again.
-use Rattle.std.specs.Prelude.{ℕ, ◌^◌, ◌≤◌, ℤ, Bool, true, not, ◌&&◌, nat_lt, nat_eq, if◌then◌else◌, List, [], ◌∷◌, ◌++◌, length, Option, Some, IsTrue}
+use Rattle.std.specs.Prelude.{ℕ, ◌^◌, ◌≤◌, ℤ, Bool, true, not, ◌&&◌, nat_lt, nat_eq, if◌then◌else◌, List, [], ◌∷◌, length, Option, Some, IsTrue}
 use Rattle.std.specs.Ordering.{int_eq}
-use Rattle.std.specs.List.{list_all, list_any, flat_map}
+use Rattle.std.specs.List.{list_all, list_any}
 use Rattle.plain_types.specs.Steps.{by_option}
 use Rattle.row_values.specs.declared.kind.Kind.{Kind}
-use Rattle.row_values.specs.declared.kind.Kind.TheVariants as kind
 use Rattle.row_values.specs.declared.value.Value.{Value}
 use Rattle.row_values.specs.declared.schema.TableSchema.{TableSchema}
 use Rattle.row_values.specs.declared.partition.PartField.{PartField}
@@ -12,15 +11,12 @@ use Rattle.row_values.specs.declared.partition.Spec.{Spec}
 use Rattle.row_values.specs.Rows.{is_value}
 use Rattle.kind_values.specs.declared.stats.ColumnStats.{ColumnStats}
 use Rattle.kind_values.specs.Bounds.{is_kind}
-use Rattle.avro_binary.specs.Naming.{has_begun}
 use Rattle.avro_binary.specs.SchemaOnce.{is_id}
 use Rattle.manifest_files.specs.declared.entry.Entry.{Entry}
 use Rattle.manifest_files.specs.declared.known_column.KnownColumn.{KnownColumn}
 use Rattle.manifest_files.specs.declared.manifest_row.ManifestRow.{ManifestRow}
-use Rattle.manifest_files.specs.PartitionKinds.{kind_of_field}
 use Rattle.manifest_files.specs.Sound.{is_entry}
 use Rattle.manifest_files.specs.Statistics.{known_columns}
-use Rattle.manifest_writer.specs.PartTypes.{decimal_name}
 
 -- ---- statistics
 
@@ -62,27 +58,16 @@ unfoldable pub are_apart : List PartField → Bool
 are_apart [] = true
 are_apart (part ∷ parts) = not (has_field part.field parts) && are_apart parts
 
--- the named types of a field
-abbrev pub type_names : Option Kind → List (List ℕ)
-type_names (Some (kind.Decimal precision scale)) = decimal_name precision scale ∷ []
-type_names _ = []
-
--- none of these names stands before, behind those that do
-unfoldable pub are_new : List (List ℕ) → List (List ℕ) → Bool
-are_new begun [] = true
-are_new begun (name ∷ names) = not (has_begun name begun) && are_new (begun ++ name ∷ []) names
-
--- At most 1,000 fields, each with an id of its own of 32 bits, and no decimal type twice: a schema's text has a type once.
-pub record IsWritableSpec (spec : Spec) (schema : TableSchema) : Type 0 where
+-- at most 1,000 fields, each with an id of its own of 32 bits
+pub record IsWritableSpec (spec : Spec) : Type 0 where
   pub few : length spec.fields ≤ 1000
   pub ids : IsTrue (list_all (λ part. is_id (Some part.field)) spec.fields)
   pub apart : IsTrue (are_apart spec.fields)
-  pub types : IsTrue (are_new [] (flat_map (λ part. type_names (kind_of_field schema.columns part)) spec.fields))
 
 pub record CanBeWritten (entries : List Entry) (spec : Spec) (schema : TableSchema) : Type 0 where
   pub each : IsTrue (list_all (is_written spec schema) entries)
   pub kinds : IsTrue (list_all (λ column. is_kind column.kind) schema.columns)
-  pub fields : IsWritableSpec spec schema
+  pub fields : IsWritableSpec spec
 
 -- ---- what is read
 

@@ -6,11 +6,7 @@ use Rattle.row_values.specs.declared.value.Value.TheVariants as value
 use Rattle.avro_binary.specs.declared.datum.Datum.{Datum}
 use Rattle.avro_binary.specs.declared.datum.Datum.TheVariants as datum
 use Rattle.avro_binary.specs.Spelling.{IsSignedOf}
-
--- a value of an optional field
-abbrev pub optional : Option Datum → Datum
-optional None = datum.Union 0 datum.Null
-optional (Some d) = datum.Union 1 d
+use Rattle.row_writer.specs.KindDatum.{optional}
 
 abbrev pub optional_int : Option ℤ → Datum
 optional_int number = optional (option_map datum.Int number)

@@ -24,14 +24,12 @@ ghost use Rattle.manifest_writer.specs.EntryDatum.{
 use crate::fact::Fact;
 use crate::fact_datum::fact_value;
 use crate::part_datum::part_datums;
-use crate::value::{
-    count_number, int_datum, long_datum, null_branch, optional_long, optional_text, text_datum,
-    value_branch,
-};
+use crate::value::{count_number, int_datum, long_datum, optional_long, optional_text, text_datum};
 use avro_binary::{Datum, Items, Octets, put_each};
 use kind_values::ColumnStats;
 use manifest_files::{Content, Entry};
 use row_values::{Spec, TableSchema};
+use row_writer::{null_branch, value_branch};
 use std::alloc::{AllocError, Global};
 
 fn status_number(status: u8) -> i32

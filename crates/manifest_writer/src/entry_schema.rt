@@ -16,10 +16,10 @@ ghost use Rattle.manifest_writer.specs.EntryTypes.{
 
 use crate::fact::Fact;
 use crate::fact_schema::fact_field;
-use crate::field::{field, items_type, optional_type, record_type};
 use crate::part_schema::part_fields;
 use avro_binary::{Field, Logical, Schema};
 use row_values::{Spec, TableSchema};
+use row_writer::{field, items_type, optional_type, record_type};
 use std::alloc::{AllocError, Global};
 
 fn optional_long(alloc: Global, id: i32, name: &[u8]) -> Result<Field, AllocError>

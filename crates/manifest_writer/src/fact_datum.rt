@@ -1,13 +1,15 @@
 //! An entry's statistics as datums.
-ghost use Rattle.std.specs.Prelude.{◌≡◌, ◌++◌, ◌∷◌, [], IfOk, OnOk};
+ghost use Rattle.plain_types.specs.Appends.{Appends};
+ghost use Rattle.std.specs.Prelude.{◌≡◌, ◌∷◌, [], IfOk};
 ghost use Rattle.avro_binary.specs.Spelling.{IsSignedOf};
 ghost use Rattle.manifest_writer.specs.Facts.{count_datum, bound_datum, fact_datum, pair_of, pairs_of, map_value, fact_value, HasIds};
 
 use crate::fact::Fact;
-use crate::value::{count_number, int_datum, null_branch, value_branch};
+use crate::value::{count_number, int_datum};
 use avro_binary::{Datum, Items, Octets};
 use kind_values::{ColumnStats, write_bound};
 use row_values::Value;
+use row_writer::{null_branch, value_branch};
 use std::alloc::{AllocError, Global};
 
 fn count_datum(count: Option<u64>) -> Option<Datum>
@@ -59,7 +61,7 @@ fn push_pair(
     facts: &ColumnStats,
     pairs: &mut Vec<Datum>,
 ) -> Result<(), AllocError>
-    ensures same { OnOk result (pairs.new.items ≡ pairs.old.items ++ pair_of fact facts.now) }
+    ensures same { Appends pairs.old.items pairs.new.items (pair_of fact facts.now) result }
     ensures range { IsSignedOf 31 facts.now.id }
 {
     let id = int_datum(facts.id);

@@ -1,11 +1,11 @@
 //! The types of an entry's statistics.
 ghost use Rattle.std.specs.Prelude.{◌≡◌, IfOk};
 ghost use Rattle.manifest_writer.specs.Facts.{pairs_type, fact_field};
-ghost use Rattle.manifest_writer.specs.Field.{optional_type};
+ghost use Rattle.row_writer.specs.Field.{optional_type};
 
 use crate::fact::Fact;
-use crate::field::{field, map_type, optional_type, record_type};
 use avro_binary::{Field, Logical, Schema};
+use row_writer::{field, map_type, optional_type, record_type};
 use std::alloc::{AllocError, Global};
 
 fn pairs_type(

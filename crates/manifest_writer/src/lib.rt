@@ -9,7 +9,6 @@ mod entry_schema;
 mod fact;
 mod fact_datum;
 mod fact_schema;
-mod field;
 mod laws;
 mod list;
 mod list_datum;

@@ -14,11 +14,12 @@ ghost use Rattle.manifest_writer.specs.ListDatum.{
 };
 
 use crate::value::{
-    int_datum, long_datum, optional_bound, optional_int, optional_long, text_datum, value_branch,
+    int_datum, long_datum, optional_bound, optional_int, optional_long, text_datum,
 };
 use avro_binary::{Datum, Items};
 use kind_values::Summary;
 use manifest_files::{ManifestContent, ManifestRow};
+use row_writer::value_branch;
 use std::alloc::{AllocError, Global};
 
 fn content_number(content: ManifestContent) -> i32

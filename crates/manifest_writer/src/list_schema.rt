@@ -2,8 +2,8 @@
 ghost use Rattle.std.specs.Prelude.{◌≡◌, IfOk};
 ghost use Rattle.manifest_writer.specs.ListTypes.{head_fields, count_fields, summary_fields, partitions_field, list_types};
 
-use crate::field::{field, items_type, optional_type, record_type};
 use avro_binary::{Field, Logical, Schema};
+use row_writer::{field, items_type, optional_type, record_type};
 use std::alloc::{AllocError, Global};
 
 fn head_fields(alloc: Global) -> Result<Vec<Field>, AllocError>

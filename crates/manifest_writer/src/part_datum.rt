@@ -1,48 +1,13 @@
 //! A partition's values as datums.
 ghost use Rattle.std.specs.Prelude.{◌≡◌, IfOk};
-ghost use Rattle.manifest_writer.specs.PartDatum.{amount_size, value_datum, part_datum, part_datums};
+ghost use Rattle.manifest_writer.specs.PartDatum.{part_datum, part_datums};
 
-use crate::part_schema::decimal_size;
-use crate::value::{null_branch, value_branch};
-use avro_binary::{Datum, Octets};
-use kind_values::{is_value, write_signed_in};
+use avro_binary::Datum;
+use kind_values::is_value;
 use manifest_files::kind_of_field;
 use row_values::{Column, Kind, PartField, Value};
+use row_writer::{null_branch, value_branch, value_datum};
 use std::alloc::{AllocError, Global};
-
-fn amount_size(kind: Kind) -> usize
-    ensures { result ≡ amount_size kind }
-{
-    match kind {
-        Kind::Decimal { precision, .. } => decimal_size(precision),
-        _ => 0,
-    }
-}
-
-fn amount_datum(alloc: Global, kind: Kind, unscaled: i128) -> Result<Datum, AllocError>
-    ensures { IfOk result (λ d. d ≡ value_datum kind (Value.Decimal unscaled 0)) }
-{
-    let mut bytes = Vec::new(alloc);
-    write_signed_in(amount_size(kind), unscaled, &mut bytes)?;
-    Ok(Datum::Fixed(Octets::from_vec(bytes)))
-}
-
-/// A value of the kind.
-fn value_datum(alloc: Global, kind: Kind, value: &Value) -> Result<Datum, AllocError>
-    ensures { IfOk result (λ d. d ≡ value_datum kind value.now) }
-{
-    match value {
-        Value::Null => Ok(Datum::Null),
-        Value::Bool(b) => Ok(Datum::Boolean(*b)),
-        Value::Int(number) => Ok(Datum::Int(*number)),
-        Value::Long(number) => Ok(Datum::Long(*number)),
-        Value::Date(days) => Ok(Datum::Int(*days)),
-        Value::Timestamp(micros) => Ok(Datum::Long(*micros)),
-        Value::Decimal { unscaled, .. } => amount_datum(alloc, kind, *unscaled),
-        Value::Text(text) => Ok(Datum::Text(Octets::copy_of(alloc, text.as_bytes())?)),
-        Value::Bytes(bytes) => Ok(Datum::Bytes(Octets::copy_of(alloc, bytes.as_slice())?)),
-    }
-}
 
 /// A value of the kind, else null.
 fn part_datum(alloc: Global, kind: Option<Kind>, value: &Value) -> Result<Datum, AllocError>

@@ -3,7 +3,6 @@ ghost use Rattle.std.specs.Prelude.{◌≡◌, IfOk, option_and_then};
 ghost use Rattle.std.specs.Str.{IsUtf8};
 ghost use Rattle.avro_binary.specs.Spelling.{IsSignedOf};
 ghost use Rattle.manifest_writer.specs.Value.{
-  optional,
   optional_int,
   optional_long,
   optional_bound,
@@ -14,8 +13,9 @@ ghost use Rattle.manifest_writer.specs.Value.{
   count_number,
 };
 
-use avro_binary::{Boxed, Datum, Octets};
+use avro_binary::{Datum, Octets};
 use row_values::{Text, Value};
+use row_writer::{null_branch, value_branch};
 use std::alloc::{AllocError, Global};
 
 pub(crate) fn text_datum(alloc: Global, text: &Text) -> Result<Datum, AllocError>
@@ -38,24 +38,6 @@ pub(crate) fn long_datum(number: i64) -> Datum
     ensures range { IsSignedOf 63 number }
 {
     Datum::Long(number)
-}
-
-pub(crate) fn null_branch(alloc: Global) -> Result<Datum, AllocError>
-    ensures { IfOk result (λ d. d ≡ optional None) }
-{
-    Ok(Datum::Union {
-        branch: 0,
-        value: Boxed::new(alloc, Datum::Null)?,
-    })
-}
-
-pub(crate) fn value_branch(alloc: Global, datum: Datum) -> Result<Datum, AllocError>
-    ensures { IfOk result (λ d. d ≡ optional (Some datum)) }
-{
-    Ok(Datum::Union {
-        branch: 1,
-        value: Boxed::new(alloc, datum)?,
-    })
 }
 
 pub(crate) fn optional_int(alloc: Global, number: Option<i32>) -> Result<Datum, AllocError>

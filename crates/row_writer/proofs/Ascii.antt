@@ -1,5 +1,6 @@
 -- Names of ASCII.
 use Rattle.std.proofs.Common.{◌≡◌, ℕ, suc, ◌-◌, ◌^◌, ◌<◌, ℤ, pos, negsuc, List, [], ◌∷◌, ◌++◌, Bool, true, false, cond, ◌&&◌, nat_le, ltb, is_some, Some, None, refl, ap, ◌∙◌, arith}
+use Rattle.std.specs.Prelude.{codes}
 use Rattle.std.specs.Fmt.{decimal}
 use Rattle.std.specs.List.{list_all}
 use Rattle.std.specs.Str.{IsAscii}
@@ -7,7 +8,7 @@ use Rattle.std.proofs.lemmas.Fmt.{IsAscii-decimal}
 use Rattle.std.proofs.lemmas.Bool.Decides.{nat_tests}
 use Rattle.avro_binary.specs.SchemaOnce.{is_id}
 use Rattle.avro_binary.proofs.CallerLemmas.{are_ascii}
-use Rattle.row_writer.specs.Names.{is_letter, is_name_byte, is_name, id_name}
+use Rattle.row_writer.specs.Names.{is_letter, is_name_byte, is_name, id_name, decimal_name}
 use Rattle.row_writer.proofs.Tests.{first, second}
 
 pub ascii_append : (xs ys : List ℕ) → are_ascii xs ≡ true → are_ascii ys ≡ true → are_ascii (xs ++ ys) ≡ true
@@ -49,3 +50,6 @@ id_ascii (pos n) h =
 id_ascii (negsuc n) h =
     let small : n < 2 ^ 63 = small_by n (nat_le n (2 ^ 31 - 1)) (negsuc n) refl h in
     decimal_ascii (suc n) (omega arith)
+
+pub decimal_name_ascii : (id : ℤ) → is_id (Some id) ≡ true → are_ascii (decimal_name id) ≡ true
+decimal_name_ascii id h = ascii_append (codes "decimal_") (id_name id) refl (id_ascii id h)

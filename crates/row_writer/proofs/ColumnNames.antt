@@ -12,8 +12,7 @@ use Rattle.std.proofs.lemmas.List.{append_cancel_left}
 use Rattle.std.proofs.lemmas.Slice.Eq.{bytes_eq-Decides}
 use Rattle.std.proofs.lemmas.Str.Parse.{digit_from_value}
 use Rattle.avro_binary.specs.SchemaOnce.{is_id}
-use Rattle.row_writer.specs.Names.{id_name}
-use Rattle.row_writer.specs.RowTypes.{decimal_name}
+use Rattle.row_writer.specs.Names.{id_name, decimal_name}
 
 small_by : (n : ℕ) (b : Bool) (z : ℤ) → nat_le n (2 ^ 31 - 1) ≡ b → is_some (cond b (Some z) None) ≡ true → n < 2 ^ 63
 small_by n true z e h = grind (arith, nat_tests)

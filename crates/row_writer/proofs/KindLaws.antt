@@ -25,7 +25,7 @@ use Rattle.row_writer.specs.KindTypes.{decimal_size}
 use Rattle.row_writer.specs.KindDatum.{value_datum}
 use Rattle.row_writer.proofs.Tests.{first, second}
 use Rattle.row_writer.proofs.Plans.{optional_plan, type_of}
-use Rattle.row_writer.proofs.PlanOut.{out_plan, plan_out, null_out}
+use Rattle.row_writer.proofs.PlanOut.{out_plan, plan_out, null_type_out}
 use Rattle.row_writer.proofs.KindPlans.{kind_plan}
 use Rattle.row_writer.proofs.DatumOut.{boolean_out, int_out, long_out, bytes_out, text_out, fixed_out}
 
@@ -162,5 +162,5 @@ abbrev branch_by : Kind → open_schema.Schema-F Schema Field → open_schema.Sc
 branch_by k a b = cond (is_null_type a) (carries_bare k b) (cond (is_null_type b) (carries_bare k a) false)
 
 pub optional_carried : (name : List ℕ) (k : Kind) → carries k (type_of (optional_plan (kind_plan name k))) ≡ true
-optional_carried name k = ap (carries_level k) (plan_out (optional_plan (kind_plan name k))) ∙ ap (λ (a : open_schema.Schema-F Schema Field). branch_by k a (out-Schema (type_of (kind_plan name k)))) null_out
+optional_carried name k = ap (carries_level k) (plan_out (optional_plan (kind_plan name k))) ∙ ap (λ (a : open_schema.Schema-F Schema Field). branch_by k a (out-Schema (type_of (kind_plan name k)))) null_type_out
     ∙ ap (carries_bare k) (plan_out (kind_plan name k)) ∙ bare name k

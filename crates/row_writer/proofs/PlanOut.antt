@@ -37,5 +37,5 @@ plan_out (optional_plan p) = ap out-Schema (sym (schema.rolls-Union (schema.Null
 plan_out (items_plan element p) = ap out-Schema (sym (schema.rolls-Array (type_of p) (Some element) false)) ∙ out-roll-Schema (open_schema.Array (type_of p) (Some element) false)
 plan_out (record_plan name ps) = ap out-Schema (sym (schema.rolls-Record name (types_of ps))) ∙ out-roll-Schema (open_schema.Record name (types_of ps))
 
-pub null_out : out-Schema schema.Null ≡ open_schema.Null
-null_out = ap out-Schema (sym schema.rolls-Null) ∙ out-roll-Schema open_schema.Null
+pub null_type_out : out-Schema schema.Null ≡ open_schema.Null
+null_type_out = ap out-Schema (sym schema.rolls-Null) ∙ out-roll-Schema open_schema.Null

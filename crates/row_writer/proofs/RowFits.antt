@@ -12,7 +12,8 @@ use Rattle.row_writer.proofs.Tests.{first, second}
 use Rattle.row_writer.proofs.KindPlans.{kind_plan, plan_shape, plan_shapes}
 use Rattle.row_writer.proofs.KindFits.{value_fits}
 use Rattle.row_writer.proofs.FieldLaws.{none_fits, some_fits, no_field, more_fields, record_fits}
-use Rattle.row_writer.specs.RowTypes.{are_names, decimal_name, row_type}
+use Rattle.row_writer.specs.Names.{decimal_name}
+use Rattle.row_writer.specs.RowTypes.{are_names, row_type}
 use Rattle.row_writer.specs.RowDatum.{column_datum, column_datums, row_datum}
 use Rattle.row_writer.proofs.RowPlans.{if_required, column_plan, column_plans, row_plan, row_type_is, row_shape_is}
 

@@ -10,7 +10,8 @@ use Rattle.row_writer.specs.Field.{field, optional_type, record_type}
 use Rattle.row_writer.specs.KindTypes.{kind_type}
 use Rattle.row_writer.proofs.Plans.{Plan, optional_plan, record_plan, Plans, no_plans, more_plans, type_of, types_of, plan_folds}
 use Rattle.row_writer.proofs.KindPlans.{kind_plan, kind_type_is, plan_shapes}
-use Rattle.row_writer.specs.RowTypes.{are_names, column_name, decimal_name, column_field, row_type}
+use Rattle.row_writer.specs.Names.{decimal_name}
+use Rattle.row_writer.specs.RowTypes.{are_names, column_name, column_field, row_type}
 
 abbrev pub if_required : Bool → Plan → Plan
 if_required true p = p

@@ -12,17 +12,17 @@ use Rattle.avro_binary.specs.SchemaOnce.{has_text, is_id, each_once}
 use Rattle.avro_binary.specs.Shape.{shape}
 use Rattle.avro_binary.specs.Spelling.{takes_bytes, some_takes_bytes, items_take_bytes, all_items_take_bytes}
 use Rattle.avro_binary.proofs.CallerLemmas.{are_ascii}
-use Rattle.row_writer.specs.Names.{is_name, id_name}
+use Rattle.row_writer.specs.Names.{is_name, decimal_name}
 use Rattle.row_writer.proofs.Tests.{first, second, not_false}
-use Rattle.row_writer.proofs.Begun.{begun_append, one_is}
-use Rattle.row_writer.proofs.Ascii.{ascii_append, name_ascii, id_ascii}
+use Rattle.row_writer.proofs.Begun.{begun_append}
+use Rattle.row_writer.proofs.Ascii.{name_ascii, id_ascii, decimal_name_ascii}
 use Rattle.row_writer.proofs.Plans.{Plan, optional_plan, type_of}
 use Rattle.row_writer.proofs.PlanNames.{named, named_each, plain_names, plain_fields}
 use Rattle.row_writer.proofs.PlanRoom.{nodes, nodes_of, within, all_within}
 use Rattle.row_writer.proofs.PlanText.{plan_has_text}
 use Rattle.row_writer.proofs.KindPlans.{kind_plan, kind_nodes, kind_within, plan_shape, plan_shapes}
-use Rattle.row_writer.proofs.KindText.{kind_plain, kind_takes_bytes, kind_items}
-use Rattle.row_writer.specs.RowTypes.{has_name, are_names, column_name, decimal_name, row_type}
+use Rattle.row_writer.proofs.KindText.{kind_plain, after_kind, kind_named, kind_takes_bytes, kind_items}
+use Rattle.row_writer.specs.RowTypes.{has_name, are_names, column_name, row_type}
 use Rattle.row_writer.specs.Readable.{has_id, are_apart, AreColumns}
 use Rattle.row_writer.proofs.ColumnNames.{names_differ}
 use Rattle.row_writer.proofs.Apart.{no_column_here, turned}
@@ -40,9 +40,6 @@ plain_by : (b : Bool) (name : List ℕ) (k : Kind) → are_ascii name ≡ true �
 plain_by true name k text h = kind_plain name k text h
 plain_by false name k text h = kind_plain name k text h
 
-decimal_ascii : (id : ℤ) → is_id (Some id) ≡ true → are_ascii (decimal_name id) ≡ true
-decimal_ascii id h = ascii_append (codes "decimal_") (id_name id) refl (id_ascii id h)
-
 column_ascii : (keeps : Bool) (column : Column) → (keeps ≡ true → is_name column.name ≡ true) → is_id (Some column.id) ≡ true
     → are_ascii (column_name keeps column) ≡ true
 column_ascii true column h id = name_ascii column.name (h refl)
@@ -58,28 +55,13 @@ columns_plain keeps (column ∷ columns) names ids kinds =
     let name = column_ascii keeps column (λ h. first (is_name column.name) rest (names h)) id in
     ap (λ (b : Bool). b && (is_id (Some column.id) && (plain_names (column_plan column) && plain_fields (column_plans keeps columns)))) name
     ∙ ap (λ (b : Bool). b && (plain_names (column_plan column) && plain_fields (column_plans keeps columns))) id
-    ∙ ap (λ (b : Bool). b && plain_fields (column_plans keeps columns)) (plain_by column.required (decimal_name column.id) column.kind (decimal_ascii column.id id) (first (is_kind column.kind) (are_kinds columns) kinds))
+    ∙ ap (λ (b : Bool). b && plain_fields (column_plans keeps columns)) (plain_by column.required (decimal_name column.id) column.kind (decimal_name_ascii column.id id) (first (is_kind column.kind) (are_kinds columns) kinds))
     ∙ columns_plain keeps columns (λ h. second (not (has_name column.name columns)) (are_names columns) (second (is_name column.name) rest (names h))) (second (is_id (Some column.id)) (are_ids columns) ids) (second (is_kind column.kind) (are_kinds columns) kinds)
 
 -- ---- each named type once
 
 abbrev Names : Type 0
 Names = List (List ℕ)
-
--- the names after a type of this kind
-abbrev after_kind : List ℕ → Kind → Names → Names
-after_kind name (kind.Decimal precision scale) begun = begun ++ name ∷ []
-after_kind name _ begun = begun
-
-kind_named : (name : List ℕ) (k : Kind) (begun : Names) → has_begun name begun ≡ false → named (kind_plan name k) begun ≡ Some (after_kind name k begun)
-kind_named name kind.Bool begun h = refl
-kind_named name kind.Int begun h = refl
-kind_named name kind.Long begun h = refl
-kind_named name kind.Date begun h = refl
-kind_named name (kind.Timestamp utc) begun h = refl
-kind_named name (kind.Decimal precision scale) begun h = one_is name begun h
-kind_named name kind.Text begun h = refl
-kind_named name kind.Bytes begun h = refl
 
 named_by : (b : Bool) (name : List ℕ) (k : Kind) (begun : Names) → has_begun name begun ≡ false
     → named (if_required b (kind_plan name k)) begun ≡ Some (after_kind name k begun)

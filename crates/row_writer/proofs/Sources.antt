@@ -19,7 +19,8 @@ use Rattle.row_writer.proofs.Tests.{first, second, not_false}
 use Rattle.row_writer.proofs.Plans.{type_of, types_of}
 use Rattle.row_writer.proofs.KindPlans.{kind_plan}
 use Rattle.row_writer.proofs.KindLaws.{kind_carried, optional_carried}
-use Rattle.row_writer.specs.RowTypes.{column_name, decimal_name}
+use Rattle.row_writer.specs.Names.{decimal_name}
+use Rattle.row_writer.specs.RowTypes.{column_name}
 use Rattle.row_writer.specs.Readable.{has_id, are_apart}
 use Rattle.row_writer.proofs.Apart.{no_column_here, turned}
 use Rattle.row_writer.proofs.RowPlans.{if_required, column_plan, column_plans}
@@ -86,7 +87,9 @@ apart_more : (front : List Column) (column : Column) (columns : List Column) →
 apart_more front column [] h new = refl
 apart_more front column (other ∷ columns) h new =
     let here = no_column_here (int_eq other.id column.id) (has_id column.id columns) new in
-    ap (λ (b : Bool). b && apart_from (front ++ column ∷ []) columns) (lack_more other.id front column (first (lack other.id front) (apart_from front columns) h) (turned other.id column.id here.0)) ∙ apart_more front column columns (second (lack other.id front) (apart_from front columns) h) here.1
+    ap (λ (b : Bool). b && apart_from (front ++ column ∷ []) columns)
+    (lack_more other.id front column (first (lack other.id front) (apart_from front columns) h) (turned other.id column.id here.0))
+    ∙ apart_more front column columns (second (lack other.id front) (apart_from front columns) h) here.1
 
 one_more : (front : List Column) (column : Column) → length (front ++ column ∷ []) ≡ suc (length front)
 one_more front column = length-append front (column ∷ []) ∙ omega arith

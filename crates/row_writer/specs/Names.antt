@@ -18,3 +18,7 @@ is_name (b ∷ bs) = is_letter b && list_all is_name_byte bs
 abbrev pub id_name : ℤ → List ℕ
 id_name (pos n) = codes "c" ++ decimal n
 id_name (negsuc n) = codes "cm" ++ decimal (suc n)
+
+-- the name of the type of the decimals of the field with the id, which no other field's has: a named type is defined once
+abbrev pub decimal_name : ℤ → List ℕ
+decimal_name id = codes "decimal_" ++ id_name id

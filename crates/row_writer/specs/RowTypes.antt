@@ -1,6 +1,6 @@
 -- The type of the rows of a data file (Iceberg specification, Appendix A, "Avro"; Avro 1.11.1, "Names"). Fields are found by
 -- their ids; a name that Avro doesn't allow would make the file unreadable to others.
-use Rattle.std.specs.Prelude.{ℕ, ℤ, Bool, true, not, ◌&&◌, if◌then◌else◌, List, [], ◌∷◌, ◌++◌, map, codes}
+use Rattle.std.specs.Prelude.{ℕ, Bool, true, not, ◌&&◌, if◌then◌else◌, List, [], ◌∷◌, map, codes}
 use Rattle.std.specs.List.{list_any}
 use Rattle.std.specs.Str.{bytes_eq}
 use Rattle.row_values.specs.declared.schema.Column.{Column}
@@ -8,7 +8,7 @@ use Rattle.avro_binary.specs.declared.schema.Field.{Field}
 use Rattle.avro_binary.specs.declared.schema.Schema.{Schema}
 use Rattle.row_writer.specs.Field.{field, optional_type, record_type}
 use Rattle.row_writer.specs.KindTypes.{kind_type}
-use Rattle.row_writer.specs.Names.{is_name, id_name}
+use Rattle.row_writer.specs.Names.{is_name, id_name, decimal_name}
 
 -- ---- names
 
@@ -22,10 +22,6 @@ are_names (column ∷ columns) = is_name column.name && (not (has_name column.na
 
 abbrev pub column_name : Bool → Column → List ℕ
 column_name keeps column = if keeps then column.name else id_name column.id
-
--- the name of the type of a column's decimals, which no other column's has: a named type is defined once
-abbrev pub decimal_name : ℤ → List ℕ
-decimal_name id = codes "decimal_" ++ id_name id
 
 -- ---- types
 

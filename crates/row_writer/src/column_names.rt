@@ -1,7 +1,7 @@
 //! The names of the fields.
-ghost use Rattle.std.specs.Prelude.{◌≡◌, IfOk, string_bytes};
+ghost use Rattle.std.specs.Prelude.{◌≡◌, IfOk};
 ghost use Rattle.std.specs.Str.{bytes_eq};
-ghost use Rattle.row_writer.specs.RowTypes.{has_name, are_names, column_name, decimal_name};
+ghost use Rattle.row_writer.specs.RowTypes.{has_name, are_names, column_name};
 
 use crate::names::{id_name, is_name};
 use avro_binary::Octets;
@@ -50,12 +50,4 @@ pub(crate) fn column_name(alloc: Global, keeps: bool, column: &Column) -> Result
     }
     let name = id_name(alloc, column.id)?;
     Octets::copy_of(alloc, name.as_bytes())
-}
-
-/// The name of the type of a column's decimals.
-pub(crate) fn decimal_name(alloc: Global, id: i32) -> Result<String, AllocError>
-    ensures { IfOk result (λ name. string_bytes name ≡ decimal_name id) }
-{
-    let name = id_name(alloc, id)?;
-    format!(in alloc; "decimal_{name}")
 }

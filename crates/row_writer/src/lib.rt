@@ -20,6 +20,6 @@ pub use datums::{null_branch, value_branch, value_datum};
 pub use fields::{field, items_type, map_type, optional_type, record_type};
 pub use kinds::kind_type;
 pub use laws::{a_short_row_takes_few_bytes, what_is_written_is_read};
-pub use names::{id_name, is_name};
+pub use names::{decimal_name, id_name, is_name};
 pub use row_datum::row_size;
 pub use writer::write_rows;

@@ -1,7 +1,7 @@
 //! Names of fields.
 ghost use Rattle.std.specs.Prelude.{◌≡◌, IfOk, string_bytes};
 ghost use Rattle.std.specs.List.{list_all};
-ghost use Rattle.row_writer.specs.Names.{is_letter, is_name_byte, is_name, id_name};
+ghost use Rattle.row_writer.specs.Names.{is_letter, is_name_byte, is_name, id_name, decimal_name};
 
 use std::alloc::{AllocError, Global};
 
@@ -49,4 +49,12 @@ pub fn id_name(alloc: Global, id: i32) -> Result<String, AllocError>
     } else {
         format!(in alloc; "c{id}")
     }
+}
+
+/// The name of the type of the decimals of the field with the id.
+pub fn decimal_name(alloc: Global, id: i32) -> Result<String, AllocError>
+    ensures { IfOk result (λ name. string_bytes name ≡ decimal_name id) }
+{
+    let name = id_name(alloc, id)?;
+    format!(in alloc; "decimal_{name}")
 }

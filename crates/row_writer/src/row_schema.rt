@@ -2,9 +2,10 @@
 ghost use Rattle.std.specs.Prelude.{◌≡◌, IfOk};
 ghost use Rattle.row_writer.specs.RowTypes.{value_type, column_type, column_field, column_fields, row_type};
 
-use crate::column_names::{are_names, column_name, decimal_name};
+use crate::column_names::{are_names, column_name};
 use crate::fields::{optional_type, record_type};
 use crate::kinds::kind_type;
+use crate::names::decimal_name;
 use avro_binary::{Field, Schema};
 use row_values::Column;
 use std::alloc::{AllocError, Global};
