@@ -35,6 +35,7 @@ use Rattle.manifest_files.specs.Inheritance.{numbered}
 use Rattle.manifest_files.specs.Needed.{needed_text, needed_count}
 use Rattle.manifest_files.specs.Places.{entry_places}
 use Rattle.manifest_files.specs.Statistics.{known_columns, are_pairs, has_twice, stats_from}
+use Rattle.manifest_files.specs.FieldIds as id_of
 
 -- ---- single values
 
@@ -43,7 +44,7 @@ abbrev pub status_of : ℤ → Result ℕ ManifestFault
 status_of n = if int_eq n (pos 0) then Ok 0 else if int_eq n (pos 1) then Ok 1 else if int_eq n (pos 2) then Ok 2 else Err (fault.Status n)
 
 abbrev pub status_at : ℕ → List Datum → Result ℕ ManifestFault
-status_at place values = or_fault (fault.Kind (pos 0)) (option_and_then int_in (present values place)) >>= status_of
+status_at place values = or_fault (fault.Kind id_of.status) (option_and_then int_in (present values place)) >>= status_of
 
 -- existing or added
 abbrev pub is_live : ℕ → Bool
@@ -54,7 +55,7 @@ abbrev pub raw_numbers : EntryPlaces → ℕ → List Datum → RawNumbers
 raw_numbers places status values = record { status = status; snapshot = option_and_then long_in (present_at values places.snapshot); seq = option_and_then long_in (present_at values places.seq); file_seq = option_and_then long_in (present_at values places.file_seq) }
 
 abbrev pub content_of : ℤ → Result Content ManifestFault
-content_of n = if int_eq n (pos 0) then Ok content.Data else if int_eq n (pos 1) then Ok content.PositionDeletes else if int_eq n (pos 2) then Ok content.EqualityDeletes else Err (fault.Kind (pos 134))
+content_of n = if int_eq n (pos 0) then Ok content.Data else if int_eq n (pos 1) then Ok content.PositionDeletes else if int_eq n (pos 2) then Ok content.EqualityDeletes else Err (fault.Kind id_of.content)
 
 -- a file is one of data where nothing is said
 abbrev pub content_at : Option ℕ → List Datum → Result Content ManifestFault
@@ -66,7 +67,7 @@ is_avro (a ∷ v ∷ r ∷ o ∷ []) = eq_ignore_ascii_case a 65 && eq_ignore_as
 is_avro _ = false
 
 abbrev pub format_at : ℕ → List Datum → Result Bool ManifestFault
-format_at place values = or_fault (fault.Kind (pos 101)) (option_map is_avro (option_and_then text_in (present values place)))
+format_at place values = or_fault (fault.Kind id_of.file_format) (option_map is_avro (option_and_then text_in (present values place)))
 
 -- ---- lists of values
 
@@ -80,10 +81,10 @@ part_values values earlier [] = Ok earlier
 part_values values earlier (part ∷ parts) = part_value values part >>= λ v. part_values values (earlier ++ v ∷ []) parts
 
 unfoldable pub partition_at : FilePlaces → List Datum → Result (List Value) ManifestFault
-partition_at places values = or_fault (fault.Kind (pos 102)) (present values places.partition) >>= λ datum. part_values (values_of datum) [] places.part_fields
+partition_at places values = or_fault (fault.Kind id_of.partition) (present values places.partition) >>= λ datum. part_values (values_of datum) [] places.part_fields
 
 abbrev pub id_in : Datum → Result ℤ ManifestFault
-id_in datum = or_fault (fault.Kind (pos 135)) (option_and_then int_in (present_in datum))
+id_in datum = or_fault (fault.Kind id_of.equality_ids) (option_and_then int_in (present_in datum))
 
 -- whole numbers, behind those that are read
 unfoldable pub ids_from : List ℤ → List Datum → Result (List ℤ) ManifestFault
@@ -100,20 +101,20 @@ single_keys id places values = fault_if (fault.Twice id) (has_twice places (item
 
 unfoldable pub whole_maps : FilePlaces → List Datum → Result ⊤ ManifestFault
 whole_maps places values = do
-  _ ← whole_map (pos 109) places.values values
-  _ ← whole_map (pos 110) places.nulls values
-  _ ← whole_map (pos 125) places.lower values
-  whole_map (pos 128) places.upper values
+  _ ← whole_map id_of.value_counts places.values values
+  _ ← whole_map id_of.null_value_counts places.nulls values
+  _ ← whole_map id_of.lower_bounds places.lower values
+  whole_map id_of.upper_bounds places.upper values
 
 -- what the record of a file says, beside its statistics
 unfoldable pub file_parts : FilePlaces → List Datum → Result FileParts ManifestFault
 file_parts places values = do
   content ← content_at places.content values
-  path ← needed_text (pos 100) places.path values
+  path ← needed_text id_of.file_path places.path values
   is_avro ← format_at places.format values
   partition ← partition_at places values
-  count ← needed_count (pos 103) places.count values
-  size ← needed_count (pos 104) places.size values
+  count ← needed_count id_of.record_count places.count values
+  size ← needed_count id_of.file_size_in_bytes places.size values
   _ ← whole_maps places values
   equality_ids ← ids_from [] (items_at values places.equality_ids)
   Ok (record { content = content; path = path; is_avro = is_avro; partition = partition; count = count; size = size; equality_ids = equality_ids; referenced = option_and_then as_text (option_and_then text_in (present_at values places.referenced)) })
@@ -125,11 +126,11 @@ known_format status parts = fault_if (fault.Format parts.path) (is_live status &
 unfoldable pub allowed : ℕ → FilePlaces → FileParts → List Datum → Result ⊤ ManifestFault
 allowed status places parts values = do
   _ ← known_format status parts
-  _ ← fault_if (fault.Key (pos 131)) (is_some (present_at values places.key))
-  _ ← single_keys (pos 109) places.values values
-  _ ← single_keys (pos 110) places.nulls values
-  _ ← single_keys (pos 125) places.lower values
-  single_keys (pos 128) places.upper values
+  _ ← fault_if (fault.Key id_of.key_metadata) (is_some (present_at values places.key))
+  _ ← single_keys id_of.value_counts places.values values
+  _ ← single_keys id_of.null_value_counts places.nulls values
+  _ ← single_keys id_of.lower_bounds places.lower values
+  single_keys id_of.upper_bounds places.upper values
 
 abbrev pub whole_entry : ℕ → Numbers → ℤ → FileParts → Stats → Entry
 whole_entry status numbers spec parts stats = record { status = status; snapshot = numbers.snapshot; seq = numbers.seq; file_seq = numbers.file_seq; content = parts.content; path = parts.path; spec = spec; partition = parts.partition; count = parts.count; size = parts.size; stats = stats; equality_ids = parts.equality_ids; referenced = parts.referenced }
@@ -138,7 +139,7 @@ unfoldable pub entry_of : EntryPlaces → ManifestRow → ℤ → List KnownColu
 entry_of places row spec columns datum = do
   status ← status_at places.status (values_of datum)
   numbers ← numbered row (raw_numbers places status (values_of datum))
-  file ← or_fault (fault.Kind (pos 2)) (present (values_of datum) places.data_file)
+  file ← or_fault (fault.Kind id_of.data_file) (present (values_of datum) places.data_file)
   parts ← file_parts places.file (values_of file)
   _ ← allowed status places.file parts (values_of file)
   Ok (whole_entry status numbers spec parts (record { columns = stats_from places.file (values_of file) [] columns }))

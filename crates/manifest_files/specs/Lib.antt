@@ -1,5 +1,6 @@
 pub mod Datums
 pub mod Entries
+pub mod FieldIds
 pub mod FieldTypes
 pub mod Inheritance
 pub mod Lists

@@ -22,6 +22,7 @@ use Rattle.manifest_files.specs.declared.places.RowPlaces.{RowPlaces}
 use Rattle.manifest_files.specs.Datums.{present, present_at, present_in, int_in, long_in, boolean_in, bytes_in, items_at}
 use Rattle.manifest_files.specs.Needed.{needed_text, needed_int, needed_long}
 use Rattle.manifest_files.specs.Places.{row_places}
+use Rattle.manifest_files.specs.FieldIds as id_of
 
 -- the number, unless it is negative
 abbrev pub not_negative : ℤ → Option ℤ
@@ -34,7 +35,7 @@ abbrev pub row_count : Option ℕ → List Datum → Option ℤ
 row_count place values = option_and_then not_negative (option_and_then long_in (present_at values place))
 
 abbrev pub content_of : ℤ → Result ManifestContent ManifestFault
-content_of n = if int_eq n (pos 0) then Ok content.Data else if int_eq n (pos 1) then Ok content.Deletes else Err (fault.Kind (pos 517))
+content_of n = if int_eq n (pos 0) then Ok content.Data else if int_eq n (pos 1) then Ok content.Deletes else Err (fault.Kind id_of.manifest_content)
 
 -- A bound stands as its bytes, since a list says no kinds.
 abbrev pub bound_at : Option ℕ → List Datum → Option Value
@@ -42,8 +43,8 @@ bound_at place values = option_map value.Bytes (option_and_then bytes_in (presen
 
 unfoldable pub summary_of : SummaryPlaces → Datum → Result Summary ManifestFault
 summary_of places datum = do
-  element ← or_fault (fault.Kind (pos 507)) (present_in datum)
-  contains_null ← or_fault (fault.Kind (pos 509)) (option_and_then boolean_in (present (values_of element) places.contains_null))
+  element ← or_fault (fault.Kind id_of.partitions) (present_in datum)
+  contains_null ← or_fault (fault.Kind id_of.contains_null) (option_and_then boolean_in (present (values_of element) places.contains_null))
   Ok (record { contains_null = contains_null; lower = bound_at places.lower (values_of element); upper = bound_at places.upper (values_of element) })
 
 -- the summaries, behind those that are read
@@ -54,13 +55,13 @@ summaries_from places earlier (datum ∷ datums) = summary_of places datum >>= �
 -- what each row has
 unfoldable pub row_head : RowPlaces → List Datum → Result RowHead ManifestFault
 row_head places values = do
-  path ← needed_text (pos 500) places.path values
-  spec ← needed_int (pos 502) places.spec values
-  number ← needed_int (pos 517) places.content values
+  path ← needed_text id_of.manifest_path places.path values
+  spec ← needed_int id_of.partition_spec_id places.spec values
+  number ← needed_int id_of.manifest_content places.content values
   content ← content_of number
-  seq ← needed_long (pos 515) places.seq values
-  min_seq ← needed_long (pos 516) places.min_seq values
-  snapshot ← needed_long (pos 503) places.snapshot values
+  seq ← needed_long id_of.manifest_sequence_number places.seq values
+  min_seq ← needed_long id_of.min_sequence_number places.min_seq values
+  snapshot ← needed_long id_of.added_snapshot_id places.snapshot values
   Ok (record { path = path; spec = spec; content = content; seq = seq; min_seq = min_seq; snapshot = snapshot })
 
 -- the row, with what it may lack
@@ -71,7 +72,7 @@ unfoldable pub row_of : RowPlaces → List Datum → Result ManifestRow Manifest
 row_of places values = do
   head ← row_head places values
   partitions ← summaries_from places.summaries [] (items_at values places.summaries.place)
-  _ ← fault_if (fault.Key (pos 519)) (is_some (present_at values places.key))
+  _ ← fault_if (fault.Key id_of.manifest_key_metadata) (is_some (present_at values places.key))
   Ok (whole_row places values head partitions)
 
 -- the rows that these records are, behind those that are read

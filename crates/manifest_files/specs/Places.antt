@@ -1,6 +1,6 @@
 -- Where the fields of a manifest stand in its records (Iceberg specification, "Manifests" and "Manifest Lists"). A field
 -- is found by its id, never by its name or place; of two with one id the first counts.
-use Rattle.std.specs.Prelude.{ℕ, ◌+◌, ℤ, pos, List, [], ◌∷◌, ◌++◌, Option, Some, None, option_map, option_and_then, Result, Ok, Err, if◌then◌else◌}
+use Rattle.std.specs.Prelude.{ℕ, ◌+◌, ℤ, List, [], ◌∷◌, ◌++◌, Option, Some, None, option_map, option_and_then, Result, Ok, Err, if◌then◌else◌}
 use Rattle.plain_types.specs.Steps.{◌>>=◌, or_fault, by_option}
 use Rattle.row_values.specs.declared.schema.Column.{Column}
 use Rattle.row_values.specs.declared.partition.PartField.{PartField}
@@ -18,6 +18,7 @@ use Rattle.manifest_files.specs.declared.places.SummaryPlaces.{SummaryPlaces}
 use Rattle.manifest_files.specs.declared.places.RowPlaces.{RowPlaces}
 use Rattle.manifest_files.specs.FieldTypes.{has_type, has_items, record_fields, element_fields}
 use Rattle.manifest_files.specs.PartitionKinds.{kind_of_field, carries_part}
+use Rattle.manifest_files.specs.FieldIds as id_of
 
 -- the first field with the id, and its place
 unfoldable pub field_from : ℤ → ℕ → List Field → Option (ℕ × Field)
@@ -75,31 +76,31 @@ part_places columns fields earlier (part ∷ parts) = part_place columns fields 
 -- the fields of `data_file`
 unfoldable pub file_places : List Column → List PartField → List Field → Result FilePlaces ManifestFault
 file_places columns parts fields = do
-  content ← optional type.Int (pos 134) fields
-  path ← needed type.Text (pos 100) fields
-  format ← needed type.Text (pos 101) fields
-  partition ← needed type.Record (pos 102) fields
-  part_fields ← part_places columns (fields_under (pos 102) fields) [] parts
-  count ← needed type.Long (pos 103) fields
-  size ← needed type.Long (pos 104) fields
-  values ← pairs type.Long (pos 109) (pos 119) (pos 120) fields
-  nulls ← pairs type.Long (pos 110) (pos 121) (pos 122) fields
-  lower ← pairs type.Bytes (pos 125) (pos 126) (pos 127) fields
-  upper ← pairs type.Bytes (pos 128) (pos 129) (pos 130) fields
-  key ← optional type.Bytes (pos 131) fields
-  equality_ids ← optional_items type.Int (pos 135) fields
-  referenced ← optional type.Text (pos 143) fields
+  content ← optional type.Int id_of.content fields
+  path ← needed type.Text id_of.file_path fields
+  format ← needed type.Text id_of.file_format fields
+  partition ← needed type.Record id_of.partition fields
+  part_fields ← part_places columns (fields_under id_of.partition fields) [] parts
+  count ← needed type.Long id_of.record_count fields
+  size ← needed type.Long id_of.file_size_in_bytes fields
+  values ← pairs type.Long id_of.value_counts id_of.value_counts_key id_of.value_counts_value fields
+  nulls ← pairs type.Long id_of.null_value_counts id_of.null_value_counts_key id_of.null_value_counts_value fields
+  lower ← pairs type.Bytes id_of.lower_bounds id_of.lower_bounds_key id_of.lower_bounds_value fields
+  upper ← pairs type.Bytes id_of.upper_bounds id_of.upper_bounds_key id_of.upper_bounds_value fields
+  key ← optional type.Bytes id_of.key_metadata fields
+  equality_ids ← optional_items type.Int id_of.equality_ids fields
+  referenced ← optional type.Text id_of.referenced_data_file fields
   Ok (record { content = content; path = path; format = format; partition = partition; part_fields = part_fields; count = count; size = size; values = values; nulls = nulls; lower = lower; upper = upper; key = key; equality_ids = equality_ids; referenced = referenced })
 
 -- the fields of `manifest_entry`
 unfoldable pub entry_places : List Column → List PartField → List Field → Result EntryPlaces ManifestFault
 entry_places columns parts fields = do
-  status ← needed type.Int (pos 0) fields
-  snapshot ← optional type.Long (pos 1) fields
-  seq ← optional type.Long (pos 3) fields
-  file_seq ← optional type.Long (pos 4) fields
-  data_file ← needed type.Record (pos 2) fields
-  file ← file_places columns parts (fields_under (pos 2) fields)
+  status ← needed type.Int id_of.status fields
+  snapshot ← optional type.Long id_of.snapshot_id fields
+  seq ← optional type.Long id_of.sequence_number fields
+  file_seq ← optional type.Long id_of.file_sequence_number fields
+  data_file ← needed type.Record id_of.data_file fields
+  file ← file_places columns parts (fields_under id_of.data_file fields)
   Ok (record { status = status; snapshot = snapshot; seq = seq; file_seq = file_seq; data_file = data_file; file = file })
 
 abbrev pub no_summaries : SummaryPlaces
@@ -108,9 +109,9 @@ no_summaries = record { place = None; contains_null = 0; lower = None; upper = N
 -- the fields of `field_summary`
 unfoldable pub summary_fields : ℕ → List Field → Result SummaryPlaces ManifestFault
 summary_fields place fields = do
-  contains_null ← needed type.Boolean (pos 509) fields
-  lower ← optional type.Bytes (pos 510) fields
-  upper ← optional type.Bytes (pos 511) fields
+  contains_null ← needed type.Boolean id_of.contains_null fields
+  lower ← optional type.Bytes id_of.lower_bound fields
+  upper ← optional type.Bytes id_of.upper_bound fields
   Ok (record { place = Some place; contains_null = contains_null; lower = lower; upper = upper })
 
 abbrev pub summaries_at : Option ℕ → List Field → Result SummaryPlaces ManifestFault
@@ -118,24 +119,24 @@ summaries_at None fields = Ok no_summaries
 summaries_at (Some place) fields = summary_fields place fields
 
 unfoldable pub summary_places : List Field → Result SummaryPlaces ManifestFault
-summary_places fields = optional_items type.Record (pos 507) fields >>= λ place. summaries_at place (fields_of_items (pos 507) fields)
+summary_places fields = optional_items type.Record id_of.partitions fields >>= λ place. summaries_at place (fields_of_items id_of.partitions fields)
 
 -- the fields of `manifest_file`
 unfoldable pub row_places : List Field → Result RowPlaces ManifestFault
 row_places fields = do
-  path ← needed type.Text (pos 500) fields
-  file_length ← optional type.Long (pos 501) fields
-  spec ← needed type.Int (pos 502) fields
-  content ← needed type.Int (pos 517) fields
-  seq ← needed type.Long (pos 515) fields
-  min_seq ← needed type.Long (pos 516) fields
-  snapshot ← needed type.Long (pos 503) fields
-  added_files ← optional type.Int (pos 504) fields
-  existing_files ← optional type.Int (pos 505) fields
-  deleted_files ← optional type.Int (pos 506) fields
-  added_rows ← optional type.Long (pos 512) fields
-  existing_rows ← optional type.Long (pos 513) fields
-  deleted_rows ← optional type.Long (pos 514) fields
+  path ← needed type.Text id_of.manifest_path fields
+  file_length ← optional type.Long id_of.manifest_length fields
+  spec ← needed type.Int id_of.partition_spec_id fields
+  content ← needed type.Int id_of.manifest_content fields
+  seq ← needed type.Long id_of.manifest_sequence_number fields
+  min_seq ← needed type.Long id_of.min_sequence_number fields
+  snapshot ← needed type.Long id_of.added_snapshot_id fields
+  added_files ← optional type.Int id_of.added_files_count fields
+  existing_files ← optional type.Int id_of.existing_files_count fields
+  deleted_files ← optional type.Int id_of.deleted_files_count fields
+  added_rows ← optional type.Long id_of.added_rows_count fields
+  existing_rows ← optional type.Long id_of.existing_rows_count fields
+  deleted_rows ← optional type.Long id_of.deleted_rows_count fields
   summaries ← summary_places fields
-  key ← optional type.Bytes (pos 519) fields
+  key ← optional type.Bytes id_of.manifest_key_metadata fields
   Ok (record { path = path; file_length = file_length; spec = spec; content = content; seq = seq; min_seq = min_seq; snapshot = snapshot; added_files = added_files; existing_files = existing_files; deleted_files = deleted_files; added_rows = added_rows; existing_rows = existing_rows; deleted_rows = deleted_rows; summaries = summaries; key = key })

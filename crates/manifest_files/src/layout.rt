@@ -12,13 +12,13 @@ ghost use Rattle.manifest_files.specs.Places.{
   row_places,
 };
 
-use crate::ManifestFault;
 use crate::field_type::FieldType;
 use crate::finding::{
     field_at, fields_of_items, fields_under, needed, optional, optional_items, pairs,
 };
 use crate::partition_kinds::{carries_part, kind_of_field};
 use crate::places::{EntryPlaces, FilePlaces, PartPlace, RowPlaces, SummaryPlaces};
+use crate::{ManifestFault, field_ids};
 use avro_binary::Field;
 use row_values::{Column, List, PartField};
 use std::alloc::Global;
@@ -80,20 +80,49 @@ fn file_places(
     ensures ok { IfOk result (λ places. file_places columns.now parts.now fields.now ≡ Ok places) }
     ensures err { IfErr result (λ f. f ≢ ManifestFault.Memory → file_places columns.now parts.now fields.now ≡ Err f) }
 {
-    let content = optional(FieldType::Int, 134, fields)?;
-    let path = needed(FieldType::Text, 100, fields)?;
-    let format = needed(FieldType::Text, 101, fields)?;
-    let partition = needed(FieldType::Record, 102, fields)?;
-    let part_fields = part_places(alloc, columns, fields_under(102, fields), parts)?;
-    let count = needed(FieldType::Long, 103, fields)?;
-    let size = needed(FieldType::Long, 104, fields)?;
-    let values = pairs(FieldType::Long, 109, 119, 120, fields)?;
-    let nulls = pairs(FieldType::Long, 110, 121, 122, fields)?;
-    let lower = pairs(FieldType::Bytes, 125, 126, 127, fields)?;
-    let upper = pairs(FieldType::Bytes, 128, 129, 130, fields)?;
-    let key = optional(FieldType::Bytes, 131, fields)?;
-    let equality_ids = optional_items(FieldType::Int, 135, fields)?;
-    let referenced = optional(FieldType::Text, 143, fields)?;
+    let content = optional(FieldType::Int, field_ids::CONTENT, fields)?;
+    let path = needed(FieldType::Text, field_ids::FILE_PATH, fields)?;
+    let format = needed(FieldType::Text, field_ids::FILE_FORMAT, fields)?;
+    let partition = needed(FieldType::Record, field_ids::PARTITION, fields)?;
+    let part_fields = part_places(
+        alloc,
+        columns,
+        fields_under(field_ids::PARTITION, fields),
+        parts,
+    )?;
+    let count = needed(FieldType::Long, field_ids::RECORD_COUNT, fields)?;
+    let size = needed(FieldType::Long, field_ids::FILE_SIZE_IN_BYTES, fields)?;
+    let values = pairs(
+        FieldType::Long,
+        field_ids::VALUE_COUNTS,
+        field_ids::VALUE_COUNTS_KEY,
+        field_ids::VALUE_COUNTS_VALUE,
+        fields,
+    )?;
+    let nulls = pairs(
+        FieldType::Long,
+        field_ids::NULL_VALUE_COUNTS,
+        field_ids::NULL_VALUE_COUNTS_KEY,
+        field_ids::NULL_VALUE_COUNTS_VALUE,
+        fields,
+    )?;
+    let lower = pairs(
+        FieldType::Bytes,
+        field_ids::LOWER_BOUNDS,
+        field_ids::LOWER_BOUNDS_KEY,
+        field_ids::LOWER_BOUNDS_VALUE,
+        fields,
+    )?;
+    let upper = pairs(
+        FieldType::Bytes,
+        field_ids::UPPER_BOUNDS,
+        field_ids::UPPER_BOUNDS_KEY,
+        field_ids::UPPER_BOUNDS_VALUE,
+        fields,
+    )?;
+    let key = optional(FieldType::Bytes, field_ids::KEY_METADATA, fields)?;
+    let equality_ids = optional_items(FieldType::Int, field_ids::EQUALITY_IDS, fields)?;
+    let referenced = optional(FieldType::Text, field_ids::REFERENCED_DATA_FILE, fields)?;
     Ok(FilePlaces {
         content,
         path,
@@ -123,12 +152,17 @@ pub(crate) fn entry_places(
     ensures ok { IfOk result (λ places. entry_places columns.now parts.now fields.now ≡ Ok places) }
     ensures err { IfErr result (λ f. f ≢ ManifestFault.Memory → entry_places columns.now parts.now fields.now ≡ Err f) }
 {
-    let status = needed(FieldType::Int, 0, fields)?;
-    let snapshot = optional(FieldType::Long, 1, fields)?;
-    let seq = optional(FieldType::Long, 3, fields)?;
-    let file_seq = optional(FieldType::Long, 4, fields)?;
-    let data_file = needed(FieldType::Record, 2, fields)?;
-    let file = file_places(alloc, columns, parts, fields_under(2, fields))?;
+    let status = needed(FieldType::Int, field_ids::STATUS, fields)?;
+    let snapshot = optional(FieldType::Long, field_ids::SNAPSHOT_ID, fields)?;
+    let seq = optional(FieldType::Long, field_ids::SEQUENCE_NUMBER, fields)?;
+    let file_seq = optional(FieldType::Long, field_ids::FILE_SEQUENCE_NUMBER, fields)?;
+    let data_file = needed(FieldType::Record, field_ids::DATA_FILE, fields)?;
+    let file = file_places(
+        alloc,
+        columns,
+        parts,
+        fields_under(field_ids::DATA_FILE, fields),
+    )?;
     Ok(EntryPlaces {
         status,
         snapshot,
@@ -155,9 +189,9 @@ fn no_summaries() -> SummaryPlaces
 fn summary_fields(place: usize, fields: &[Field]) -> Result<SummaryPlaces, ManifestFault>
     ensures { result ≡ summary_fields place fields.now }
 {
-    let contains_null = needed(FieldType::Boolean, 509, fields)?;
-    let lower = optional(FieldType::Bytes, 510, fields)?;
-    let upper = optional(FieldType::Bytes, 511, fields)?;
+    let contains_null = needed(FieldType::Boolean, field_ids::CONTAINS_NULL, fields)?;
+    let lower = optional(FieldType::Bytes, field_ids::LOWER_BOUND, fields)?;
+    let upper = optional(FieldType::Bytes, field_ids::UPPER_BOUND, fields)?;
     Ok(SummaryPlaces {
         place: Some(place),
         contains_null,
@@ -170,8 +204,8 @@ fn summary_fields(place: usize, fields: &[Field]) -> Result<SummaryPlaces, Manif
 fn summary_places(fields: &[Field]) -> Result<SummaryPlaces, ManifestFault>
     ensures { result ≡ summary_places fields.now }
 {
-    match optional_items(FieldType::Record, 507, fields)? {
-        Some(place) => summary_fields(place, fields_of_items(507, fields)),
+    match optional_items(FieldType::Record, field_ids::PARTITIONS, fields)? {
+        Some(place) => summary_fields(place, fields_of_items(field_ids::PARTITIONS, fields)),
         None => Ok(no_summaries()),
     }
 }
@@ -181,21 +215,21 @@ fn summary_places(fields: &[Field]) -> Result<SummaryPlaces, ManifestFault>
 pub(crate) fn row_places(fields: &[Field]) -> Result<RowPlaces, ManifestFault>
     ensures { result ≡ row_places fields.now }
 {
-    let path = needed(FieldType::Text, 500, fields)?;
-    let file_length = optional(FieldType::Long, 501, fields)?;
-    let spec = needed(FieldType::Int, 502, fields)?;
-    let content = needed(FieldType::Int, 517, fields)?;
-    let seq = needed(FieldType::Long, 515, fields)?;
-    let min_seq = needed(FieldType::Long, 516, fields)?;
-    let snapshot = needed(FieldType::Long, 503, fields)?;
-    let added_files = optional(FieldType::Int, 504, fields)?;
-    let existing_files = optional(FieldType::Int, 505, fields)?;
-    let deleted_files = optional(FieldType::Int, 506, fields)?;
-    let added_rows = optional(FieldType::Long, 512, fields)?;
-    let existing_rows = optional(FieldType::Long, 513, fields)?;
-    let deleted_rows = optional(FieldType::Long, 514, fields)?;
+    let path = needed(FieldType::Text, field_ids::MANIFEST_PATH, fields)?;
+    let file_length = optional(FieldType::Long, field_ids::MANIFEST_LENGTH, fields)?;
+    let spec = needed(FieldType::Int, field_ids::PARTITION_SPEC_ID, fields)?;
+    let content = needed(FieldType::Int, field_ids::MANIFEST_CONTENT, fields)?;
+    let seq = needed(FieldType::Long, field_ids::MANIFEST_SEQUENCE_NUMBER, fields)?;
+    let min_seq = needed(FieldType::Long, field_ids::MIN_SEQUENCE_NUMBER, fields)?;
+    let snapshot = needed(FieldType::Long, field_ids::ADDED_SNAPSHOT_ID, fields)?;
+    let added_files = optional(FieldType::Int, field_ids::ADDED_FILES_COUNT, fields)?;
+    let existing_files = optional(FieldType::Int, field_ids::EXISTING_FILES_COUNT, fields)?;
+    let deleted_files = optional(FieldType::Int, field_ids::DELETED_FILES_COUNT, fields)?;
+    let added_rows = optional(FieldType::Long, field_ids::ADDED_ROWS_COUNT, fields)?;
+    let existing_rows = optional(FieldType::Long, field_ids::EXISTING_ROWS_COUNT, fields)?;
+    let deleted_rows = optional(FieldType::Long, field_ids::DELETED_ROWS_COUNT, fields)?;
     let summaries = summary_places(fields)?;
-    let key = optional(FieldType::Bytes, 519, fields)?;
+    let key = optional(FieldType::Bytes, field_ids::MANIFEST_KEY_METADATA, fields)?;
     Ok(RowPlaces {
         path,
         file_length,

@@ -8,6 +8,7 @@
 
 mod datum_values;
 mod entry;
+pub mod field_ids;
 mod field_type;
 mod finding;
 mod known_column;

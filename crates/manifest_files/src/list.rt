@@ -23,7 +23,7 @@ use crate::layout::row_places;
 use crate::manifest_row::RowHead;
 use crate::needed::{needed_int, needed_long, needed_text};
 use crate::places::{RowPlaces, SummaryPlaces};
-use crate::{ManifestContent, ManifestFault, ManifestRow};
+use crate::{ManifestContent, ManifestFault, ManifestRow, field_ids};
 use avro_binary::Datum;
 use avro_container::{Container, ContainerFault, read_container};
 use avro_rows::{fields_of, values_of};
@@ -59,7 +59,7 @@ fn content_of(number: i32) -> Result<ManifestContent, ManifestFault>
     } else if number == 1 {
         Ok(ManifestContent::Deletes)
     } else {
-        Err(ManifestFault::Kind(517))
+        Err(ManifestFault::Kind(field_ids::MANIFEST_CONTENT))
     }
 }
 
@@ -87,11 +87,11 @@ fn summary_of(
     ensures err { IfErr result (λ f. f ≢ ManifestFault.Memory → summary_of places.now datum.now ≡ Err f) }
 {
     let Some(element) = present_in(datum) else {
-        return Err(ManifestFault::Kind(507));
+        return Err(ManifestFault::Kind(field_ids::PARTITIONS));
     };
     let values = values_of(element);
     let Some(contains_null) = boolean_at(values, places.contains_null) else {
-        return Err(ManifestFault::Kind(509));
+        return Err(ManifestFault::Kind(field_ids::CONTAINS_NULL));
     };
     Ok(Summary {
         contains_null,
@@ -125,13 +125,13 @@ fn row_head(alloc: Global, places: &RowPlaces, values: &[Datum]) -> Result<RowHe
     ensures ok { IfOk result (λ head. row_head places.now values.now ≡ Ok head) }
     ensures err { IfErr result (λ f. f ≢ ManifestFault.Memory → row_head places.now values.now ≡ Err f) }
 {
-    let path = needed_text(alloc, 500, places.path, values)?;
-    let spec = needed_int(502, places.spec, values)?;
-    let number = needed_int(517, places.content, values)?;
+    let path = needed_text(alloc, field_ids::MANIFEST_PATH, places.path, values)?;
+    let spec = needed_int(field_ids::PARTITION_SPEC_ID, places.spec, values)?;
+    let number = needed_int(field_ids::MANIFEST_CONTENT, places.content, values)?;
     let content = content_of(number)?;
-    let seq = needed_long(515, places.seq, values)?;
-    let min_seq = needed_long(516, places.min_seq, values)?;
-    let snapshot = needed_long(503, places.snapshot, values)?;
+    let seq = needed_long(field_ids::MANIFEST_SEQUENCE_NUMBER, places.seq, values)?;
+    let min_seq = needed_long(field_ids::MIN_SEQUENCE_NUMBER, places.min_seq, values)?;
+    let snapshot = needed_long(field_ids::ADDED_SNAPSHOT_ID, places.snapshot, values)?;
     Ok(RowHead {
         path,
         spec,
@@ -186,7 +186,7 @@ fn row_of(alloc: Global, places: &RowPlaces, values: &[Datum]) -> Result<Manifes
     let items = items_at(values, places.summaries.place);
     let partitions = summaries_of(alloc, &places.summaries, items)?;
     if present_at(values, places.key).is_some() {
-        return Err(ManifestFault::Key(519));
+        return Err(ManifestFault::Key(field_ids::MANIFEST_KEY_METADATA));
     }
     Ok(whole_row(places, values, head, partitions))
 }

@@ -37,7 +37,7 @@ use crate::needed::{needed_count, needed_text};
 use crate::numbers::{Numbers, RawNumbers, numbered};
 use crate::places::{EntryPlaces, FilePlaces, PairPlaces, PartPlace};
 use crate::statistics::{are_pairs, has_twice, known_columns, stats_of};
-use crate::{Content, Entry, ManifestFault, ManifestRow};
+use crate::{Content, Entry, ManifestFault, ManifestRow, field_ids};
 use avro_binary::Datum;
 use avro_rows::{fields_of, value_of, values_of};
 use kind_values::Stats;
@@ -64,7 +64,7 @@ fn status_at(place: usize, values: &[Datum]) -> Result<u8, ManifestFault>
 {
     match int_at(values, Some(place)) {
         Some(number) => status_of(number),
-        None => Err(ManifestFault::Kind(0)),
+        None => Err(ManifestFault::Kind(field_ids::STATUS)),
     }
 }
 
@@ -96,7 +96,7 @@ fn content_of(number: i32) -> Result<Content, ManifestFault>
     } else if number == 2 {
         Ok(Content::EqualityDeletes)
     } else {
-        Err(ManifestFault::Kind(134))
+        Err(ManifestFault::Kind(field_ids::CONTENT))
     }
 }
 
@@ -130,7 +130,7 @@ fn format_at(place: usize, values: &[Datum]) -> Result<bool, ManifestFault>
 {
     match text_bytes_at(values, Some(place)) {
         Some(format) => Ok(is_avro(format)),
-        None => Err(ManifestFault::Kind(101)),
+        None => Err(ManifestFault::Kind(field_ids::FILE_FORMAT)),
     }
 }
 
@@ -174,7 +174,7 @@ fn partition_at(alloc: Global, places: &FilePlaces, values: &[Datum]) -> Result<
 {
     match present(values, places.partition) {
         Some(datum) => part_values(alloc, values_of(datum), places.part_fields.as_slice()),
-        None => Err(ManifestFault::Kind(102)),
+        None => Err(ManifestFault::Kind(field_ids::PARTITION)),
     }
 }
 
@@ -184,9 +184,9 @@ fn id_in(datum: &Datum) -> Result<i32, ManifestFault>
     match present_in(datum) {
         Some(held) => match int_in(held) {
             Some(id) => Ok(id),
-            None => Err(ManifestFault::Kind(135)),
+            None => Err(ManifestFault::Kind(field_ids::EQUALITY_IDS)),
         },
-        None => Err(ManifestFault::Kind(135)),
+        None => Err(ManifestFault::Kind(field_ids::EQUALITY_IDS)),
     }
 }
 
@@ -220,10 +220,10 @@ fn whole_map(id: i32, places: &PairPlaces, values: &[Datum]) -> Result<(), Manif
 fn whole_maps(places: &FilePlaces, values: &[Datum]) -> Result<(), ManifestFault>
     ensures { result ≡ whole_maps places.now values.now }
 {
-    whole_map(109, &places.values, values)?;
-    whole_map(110, &places.nulls, values)?;
-    whole_map(125, &places.lower, values)?;
-    whole_map(128, &places.upper, values)
+    whole_map(field_ids::VALUE_COUNTS, &places.values, values)?;
+    whole_map(field_ids::NULL_VALUE_COUNTS, &places.nulls, values)?;
+    whole_map(field_ids::LOWER_BOUNDS, &places.lower, values)?;
+    whole_map(field_ids::UPPER_BOUNDS, &places.upper, values)
 }
 
 /// No key of the map stands twice.
@@ -248,11 +248,11 @@ fn file_parts(
     ensures err { IfErr result (λ f. f ≢ ManifestFault.Memory → file_parts places.now values.now ≡ Err f) }
 {
     let content = content_at(places.content, values)?;
-    let path = needed_text(alloc, 100, places.path, values)?;
+    let path = needed_text(alloc, field_ids::FILE_PATH, places.path, values)?;
     let is_avro = format_at(places.format, values)?;
     let partition = partition_at(alloc, places, values)?;
-    let count = needed_count(103, places.count, values)?;
-    let size = needed_count(104, places.size, values)?;
+    let count = needed_count(field_ids::RECORD_COUNT, places.count, values)?;
+    let size = needed_count(field_ids::FILE_SIZE_IN_BYTES, places.size, values)?;
     whole_maps(places, values)?;
     let equality_ids = ids_of(alloc, items_at(values, places.equality_ids))?;
     Ok(FileParts {
@@ -291,12 +291,12 @@ fn allowed(
 {
     known_format(alloc, status, parts)?;
     if present_at(values, places.key).is_some() {
-        return Err(ManifestFault::Key(131));
+        return Err(ManifestFault::Key(field_ids::KEY_METADATA));
     }
-    single_keys(109, &places.values, values)?;
-    single_keys(110, &places.nulls, values)?;
-    single_keys(125, &places.lower, values)?;
-    single_keys(128, &places.upper, values)
+    single_keys(field_ids::VALUE_COUNTS, &places.values, values)?;
+    single_keys(field_ids::NULL_VALUE_COUNTS, &places.nulls, values)?;
+    single_keys(field_ids::LOWER_BOUNDS, &places.lower, values)?;
+    single_keys(field_ids::UPPER_BOUNDS, &places.upper, values)
 }
 
 /// The entry, whose file's record has these values.
@@ -346,7 +346,7 @@ fn entry_of(
     let status = status_at(places.status, values)?;
     let numbers = numbered(row, &raw_numbers(places, status, values))?;
     let Some(file) = present(values, places.data_file) else {
-        return Err(ManifestFault::Kind(2));
+        return Err(ManifestFault::Kind(field_ids::DATA_FILE));
     };
     let file = values_of(file);
     let parts = file_parts(alloc, &places.file, file)?;

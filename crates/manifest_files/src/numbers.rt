@@ -2,7 +2,7 @@
 ghost use Rattle.std.specs.Prelude.{◌≡◌};
 ghost use Rattle.manifest_files.specs.Inheritance.{inherited, kept, numbered};
 
-use crate::{ManifestFault, ManifestRow};
+use crate::{ManifestFault, ManifestRow, field_ids};
 
 /// What an entry itself says.
 #[derive(Clone, Copy, Debug, PartialEq, Eq)]
@@ -38,10 +38,10 @@ fn kept(raw: &RawNumbers) -> Result<Numbers, ManifestFault>
     ensures { result ≡ kept raw.now }
 {
     let Some(snapshot) = raw.snapshot else {
-        return Err(ManifestFault::Kind(1));
+        return Err(ManifestFault::Kind(field_ids::SNAPSHOT_ID));
     };
     let Some(seq) = raw.seq else {
-        return Err(ManifestFault::Kind(3));
+        return Err(ManifestFault::Kind(field_ids::SEQUENCE_NUMBER));
     };
     Ok(Numbers {
         snapshot,

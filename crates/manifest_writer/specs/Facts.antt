@@ -1,6 +1,6 @@
 -- How the statistics of an entry are written (Iceberg specification, "Manifests", `value_counts` to `upper_bounds`, and
 -- Appendix A, "Avro"): each is an array of records with a key and a value, since Avro's maps have texts as keys.
-use Rattle.std.specs.Prelude.{ℕ, ℤ, pos, List, [], ◌∷◌, Option, Some, None, option_map, codes}
+use Rattle.std.specs.Prelude.{ℕ, ℤ, List, [], ◌∷◌, Option, Some, None, option_map, codes}
 use Rattle.std.specs.List.{AllByRecursion, flat_map}
 use Rattle.plain_types.specs.Steps.{by_option}
 use Rattle.row_values.specs.declared.value.Value.{Value}
@@ -18,6 +18,7 @@ use Rattle.manifest_writer.specs.declared.fact.Fact.TheVariants as fact
 use Rattle.row_writer.specs.Field.{field, optional_type, map_type, record_type}
 use Rattle.manifest_writer.specs.Value.{count_number}
 use Rattle.row_writer.specs.KindDatum.{optional}
+use Rattle.manifest_files.specs.FieldIds as id_of
 
 -- ---- types
 
@@ -25,10 +26,10 @@ abbrev pub pairs_type : List ℕ → ℤ → ℤ → Schema → Schema
 pairs_type name key value type = map_type (record_type name (field key (codes "key") (schema.Int Plain) ∷ field value (codes "value") type ∷ []))
 
 abbrev pub fact_field : Fact → Field
-fact_field fact.Values = field (pos 109) (codes "value_counts") (optional_type (pairs_type (codes "k119_v120") (pos 119) (pos 120) (schema.Long Plain)))
-fact_field fact.Nulls = field (pos 110) (codes "null_value_counts") (optional_type (pairs_type (codes "k121_v122") (pos 121) (pos 122) (schema.Long Plain)))
-fact_field fact.Lower = field (pos 125) (codes "lower_bounds") (optional_type (pairs_type (codes "k126_v127") (pos 126) (pos 127) (schema.Bytes Plain)))
-fact_field fact.Upper = field (pos 128) (codes "upper_bounds") (optional_type (pairs_type (codes "k129_v130") (pos 129) (pos 130) (schema.Bytes Plain)))
+fact_field fact.Values = field id_of.value_counts (codes "value_counts") (optional_type (pairs_type (codes "k119_v120") id_of.value_counts_key id_of.value_counts_value (schema.Long Plain)))
+fact_field fact.Nulls = field id_of.null_value_counts (codes "null_value_counts") (optional_type (pairs_type (codes "k121_v122") id_of.null_value_counts_key id_of.null_value_counts_value (schema.Long Plain)))
+fact_field fact.Lower = field id_of.lower_bounds (codes "lower_bounds") (optional_type (pairs_type (codes "k126_v127") id_of.lower_bounds_key id_of.lower_bounds_value (schema.Bytes Plain)))
+fact_field fact.Upper = field id_of.upper_bounds (codes "upper_bounds") (optional_type (pairs_type (codes "k129_v130") id_of.upper_bounds_key id_of.upper_bounds_value (schema.Bytes Plain)))
 
 -- ---- values
 

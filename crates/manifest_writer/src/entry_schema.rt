@@ -18,6 +18,7 @@ use crate::fact::Fact;
 use crate::fact_schema::fact_field;
 use crate::part_schema::part_fields;
 use avro_binary::{Field, Logical, Schema};
+use manifest_files::field_ids;
 use row_values::{Spec, TableSchema};
 use row_writer::{field, items_type, optional_type, record_type};
 use std::alloc::{AllocError, Global};
@@ -32,33 +33,51 @@ fn optional_long(alloc: Global, id: i32, name: &[u8]) -> Result<Field, AllocErro
 fn ids_field(alloc: Global) -> Result<Field, AllocError>
     ensures { IfOk result (λ f. f ≡ ids_field) }
 {
-    let ids = items_type(alloc, 136, Schema::Int(Logical::Plain))?;
+    let ids = items_type(
+        alloc,
+        field_ids::EQUALITY_IDS_ELEMENT,
+        Schema::Int(Logical::Plain),
+    )?;
     let schema = optional_type(alloc, ids)?;
-    field(alloc, 135, b"equality_ids", schema)
+    field(alloc, field_ids::EQUALITY_IDS, b"equality_ids", schema)
 }
 
 fn referenced_field(alloc: Global) -> Result<Field, AllocError>
     ensures { IfOk result (λ f. f ≡ referenced_field) }
 {
     let schema = optional_type(alloc, Schema::Text)?;
-    field(alloc, 143, b"referenced_data_file", schema)
+    field(
+        alloc,
+        field_ids::REFERENCED_DATA_FILE,
+        b"referenced_data_file",
+        schema,
+    )
 }
 
 fn partition_field(alloc: Global, parts: Vec<Field>) -> Result<Field, AllocError>
     ensures { IfOk result (λ f. f ≡ partition_field parts.items) }
 {
     let schema = record_type(alloc, b"r102", parts)?;
-    field(alloc, 102, b"partition", schema)
+    field(alloc, field_ids::PARTITION, b"partition", schema)
 }
 
 fn number_fields(alloc: Global) -> Result<Vec<Field>, AllocError>
     ensures { IfOk result (λ fields. fields.items ≡ number_fields) }
 {
     let mut fields = Vec::new(alloc);
-    fields.push(field(alloc, 0, b"status", Schema::Int(Logical::Plain))?)?;
-    fields.push(optional_long(alloc, 1, b"snapshot_id")?)?;
-    fields.push(optional_long(alloc, 3, b"sequence_number")?)?;
-    fields.push(optional_long(alloc, 4, b"file_sequence_number")?)?;
+    fields.push(field(
+        alloc,
+        field_ids::STATUS,
+        b"status",
+        Schema::Int(Logical::Plain),
+    )?)?;
+    fields.push(optional_long(alloc, field_ids::SNAPSHOT_ID, b"snapshot_id")?)?;
+    fields.push(optional_long(alloc, field_ids::SEQUENCE_NUMBER, b"sequence_number")?)?;
+    fields.push(optional_long(
+        alloc,
+        field_ids::FILE_SEQUENCE_NUMBER,
+        b"file_sequence_number",
+    )?)?;
     Ok(fields)
 }
 
@@ -66,9 +85,14 @@ fn file_head_fields(alloc: Global, parts: Vec<Field>) -> Result<Vec<Field>, Allo
     ensures { IfOk result (λ fields. fields.items ≡ file_head_fields parts.items) }
 {
     let mut fields = Vec::new(alloc);
-    fields.push(field(alloc, 134, b"content", Schema::Int(Logical::Plain))?)?;
-    fields.push(field(alloc, 100, b"file_path", Schema::Text)?)?;
-    fields.push(field(alloc, 101, b"file_format", Schema::Text)?)?;
+    fields.push(field(
+        alloc,
+        field_ids::CONTENT,
+        b"content",
+        Schema::Int(Logical::Plain),
+    )?)?;
+    fields.push(field(alloc, field_ids::FILE_PATH, b"file_path", Schema::Text)?)?;
+    fields.push(field(alloc, field_ids::FILE_FORMAT, b"file_format", Schema::Text)?)?;
     fields.push(partition_field(alloc, parts)?)?;
     Ok(fields)
 }
@@ -89,9 +113,14 @@ fn file_fields(alloc: Global, parts: Vec<Field>) -> Result<Vec<Field>, AllocErro
 {
     let mut fields = file_head_fields(alloc, parts)?;
     let count = Schema::Long(Logical::Plain);
-    fields.push(field(alloc, 103, b"record_count", count)?)?;
+    fields.push(field(alloc, field_ids::RECORD_COUNT, b"record_count", count)?)?;
     let size = Schema::Long(Logical::Plain);
-    fields.push(field(alloc, 104, b"file_size_in_bytes", size)?)?;
+    fields.push(field(
+        alloc,
+        field_ids::FILE_SIZE_IN_BYTES,
+        b"file_size_in_bytes",
+        size,
+    )?)?;
     let mut facts = fact_fields(alloc)?;
     fields.append(&mut facts)?;
     fields.push(ids_field(alloc)?)?;
@@ -103,7 +132,7 @@ fn file_field(alloc: Global, parts: Vec<Field>) -> Result<Field, AllocError>
     ensures { IfOk result (λ f. f ≡ file_field parts.items) }
 {
     let schema = record_type(alloc, b"r2", file_fields(alloc, parts)?)?;
-    field(alloc, 2, b"data_file", schema)
+    field(alloc, field_ids::DATA_FILE, b"data_file", schema)
 }
 
 fn types_with(alloc: Global, parts: Vec<Field>) -> Result<Schema, AllocError>

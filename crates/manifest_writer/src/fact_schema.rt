@@ -5,6 +5,7 @@ ghost use Rattle.row_writer.specs.Field.{optional_type};
 
 use crate::fact::Fact;
 use avro_binary::{Field, Logical, Schema};
+use manifest_files::field_ids;
 use row_writer::{field, map_type, optional_type, record_type};
 use std::alloc::{AllocError, Global};
 
@@ -43,20 +44,45 @@ pub(crate) fn fact_field(alloc: Global, fact: Fact) -> Result<Field, AllocError>
 {
     match fact {
         Fact::Values => {
-            let schema = counts_type(alloc, b"k119_v120", 119, 120)?;
-            field(alloc, 109, b"value_counts", schema)
+            let schema = counts_type(
+                alloc,
+                b"k119_v120",
+                field_ids::VALUE_COUNTS_KEY,
+                field_ids::VALUE_COUNTS_VALUE,
+            )?;
+            field(alloc, field_ids::VALUE_COUNTS, b"value_counts", schema)
         }
         Fact::Nulls => {
-            let schema = counts_type(alloc, b"k121_v122", 121, 122)?;
-            field(alloc, 110, b"null_value_counts", schema)
+            let schema = counts_type(
+                alloc,
+                b"k121_v122",
+                field_ids::NULL_VALUE_COUNTS_KEY,
+                field_ids::NULL_VALUE_COUNTS_VALUE,
+            )?;
+            field(
+                alloc,
+                field_ids::NULL_VALUE_COUNTS,
+                b"null_value_counts",
+                schema,
+            )
         }
         Fact::Lower => {
-            let schema = bounds_type(alloc, b"k126_v127", 126, 127)?;
-            field(alloc, 125, b"lower_bounds", schema)
+            let schema = bounds_type(
+                alloc,
+                b"k126_v127",
+                field_ids::LOWER_BOUNDS_KEY,
+                field_ids::LOWER_BOUNDS_VALUE,
+            )?;
+            field(alloc, field_ids::LOWER_BOUNDS, b"lower_bounds", schema)
         }
         Fact::Upper => {
-            let schema = bounds_type(alloc, b"k129_v130", 129, 130)?;
-            field(alloc, 128, b"upper_bounds", schema)
+            let schema = bounds_type(
+                alloc,
+                b"k129_v130",
+                field_ids::UPPER_BOUNDS_KEY,
+                field_ids::UPPER_BOUNDS_VALUE,
+            )?;
+            field(alloc, field_ids::UPPER_BOUNDS, b"upper_bounds", schema)
         }
     }
 }
