@@ -6,7 +6,6 @@ ghost use Rattle.sql_statements.specs.declared.statement.Statement.{Statement as
 ghost use Rattle.store_core.specs.Files.{Files, KeepsFiles};
 ghost use Rattle.table_names.specs.FileNames.{NoneFrom};
 ghost use Rattle.commit_builder.specs.NextVersion.{AreNames};
-ghost use Rattle.iceberg_schema.specs.Widths.{IsLong};
 ghost use Rattle.session_steps.specs.Open.{IsOpen};
 ghost use Rattle.session_steps.specs.Faults.{CannotStep};
 ghost use Rattle.session_steps.specs.Steps.{AreWorkable, EndsOf, HasShape, IsHeld, IsStepOf, LeavesOthers};
@@ -36,7 +35,6 @@ pub fn step<S: Store>(
     requires statements { AreWorkable schema.now sources.now statements.now }
     requires shape { HasShape session.old }
     requires named { AreNames session.old.names }
-    requires hour { IsLong now_ms }
     requires free { ForSome (S.files store.old) (NoneFrom table.now session.old.names.run session.old.names.session session.old.names.next) }
     requires open { ForSome (S.files store.old) (λ old. (current : ℕ) × IsOpen table.now schema.now old current) }
     requires held { ForSome (S.files store.old) (λ old. IsHeld table.now schema.now sources.now statements.now old session.old) }

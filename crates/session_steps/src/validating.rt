@@ -13,7 +13,6 @@ ghost use Rattle.session_steps.specs.Steps.{HasPending, HasShape, IsStep, Leaves
 ghost use Rattle.sql_statements.specs.declared.statement.Source.{Source};
 ghost use Rattle.sql_statements.specs.declared.statement.Statement.{Statement};
 ghost use Rattle.row_values.specs.declared.schema.TableSchema.{TableSchema};
-ghost use Rattle.iceberg_schema.specs.Widths.{IsLong};
 ghost use Rattle.commit_builder.specs.NextVersion.{AreNames};
 ghost use Rattle.commit_builder.specs.declared.commit.Prepared.{Prepared as Version};
 ghost use Rattle.branch_commit.specs.declared.found.Found.TheVariants as found;
@@ -78,7 +77,6 @@ pub(crate) fn validate_step<S: Store>(
     requires pending { IsSome session.old.pending }
     requires named { AreNames session.old.names }
     requires free { ForSome (S.files store.old) (NoneFrom table.now session.old.names.run session.old.names.session session.old.names.next) }
-    requires hour { IsLong now_ms }
     ensures step { IfOk result (λ stepped. ForSome (S.files store.old)
         (λ old. (schema : TableSchema) (sources : Seq Source) (s : Statement) (current : ℕ) → branch_of s ≡ codes "main"
         → IsOpen table.now schema old current → HasPending table.now schema sources s old session.old → (new : Files)

@@ -7,6 +7,7 @@ use Rattle.plain_types.specs.Causes.{HasCause}
 use Rattle.commit_builder.specs.NextVersion.{AreNames}
 use Rattle.session_steps.specs.declared.fault.RunFault.{RunFault}
 use Rattle.session_steps.specs.declared.fault.RunFault.TheVariants as run
+use Rattle.iceberg_schema.proofs.CallerLemmas.{long_fits}
 use Rattle.session_steps.proofs.CommitFaults.{cause_stays}
 use Rattle.session_steps.proofs.ValidateLaws.{validation_steps}
 use Rattle.session_steps.proofs.Faulted.{by_commit}
@@ -18,7 +19,7 @@ use Rattle.session_steps.proofs.validating.validate_step.Goals as goal
 pub returns-in-Ok-take-clause-step : goal.returns-in-Ok-take-clause-step
 returns-in-Ok-take-clause-step g c old is schema sources s current main was has =
     validation_steps c.args.table.now schema sources s old current c.args.session.now was main has c.in-Some.pending (sym c.in-Some.ensures.value)
-    c.args.session.now.names c.validate-validated.new.names c.args.now_ms c.in-Ok.validated c.requires.named c.requires.hour (omega (arith, c.if-session-ge-NAMES_END.false)) c.validate-validated.ensures.raised.1
+    c.args.session.now.names c.validate-validated.new.names c.args.now_ms c.in-Ok.validated c.requires.named (long_fits c.args.now_ms c.ranges.now_ms) (omega (arith, c.if-session-ge-NAMES_END.false)) c.validate-validated.ensures.raised.1
     (g.S.Store.files c.args.store.now) (g.S.Store.files c.validate-validated.new.store) is
     (subst (λ (base : List Entry). IsValidated c.in-Some.pending.plan c.in-Some.pending.change base c.args.session.now.names c.args.now_ms c.args.table.now old (g.S.Store.files c.validate-validated.new.store) c.validate-validated.new.names c.in-Ok.validated) c.data_files_of-base.ensures
     (subst (λ (now : ℤ). IsValidated c.in-Some.pending.plan c.in-Some.pending.change c.data_files_of-base.result.now c.args.session.now.names now c.args.table.now old
