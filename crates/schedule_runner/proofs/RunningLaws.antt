@@ -1,5 +1,5 @@
 -- A session that begins is running, and a step that is made keeps it so.
-use Rattle.std.proofs.Common.{◌≡◌, ◌+◌, ℕ, codes, true, List, [], ◌∷◌, ◌++◌, Option, Some, None, Result, Ok, ◌⊎◌, ⊎_elim, refl, sym, ap, subst, ◌∙◌, slice_get, inl, inr}
+use Rattle.std.proofs.Common.{◌≡◌, ◌≤◌, ◌+◌, ℕ, codes, true, List, [], ◌∷◌, ◌++◌, Option, Some, None, Result, Ok, ◌⊎◌, ⊎_elim, refl, sym, ap, subst, ◌∙◌, slice_get, inl, inr, arith}
 use Rattle.std.specs.List.{AllByRecursion}
 use Rattle.std.proofs.lemmas.Grind.{flat_map-append}
 use Rattle.plain_types.specs.Steps.{by_option}
@@ -14,6 +14,7 @@ use Rattle.sql_statements.specs.Tables.{branch_of, is_dml}
 use Rattle.store_core.specs.Files.{Files, KeepsFiles}
 use Rattle.session_machine.specs.declared.answer.Answer.TheVariants as answer
 use Rattle.session_machine.specs.declared.event.Stepped.{Stepped}
+use Rattle.table_names.specs.Versions.{version_of_name, version_prefix}
 use Rattle.table_state.specs.declared.load_fault.LoadFault.{LoadFault}
 use Rattle.table_state.specs.Live.{rows_of_branch}
 use Rattle.table_state.proofs.CallerLemmas.{rows_of_branch_stand}
@@ -36,6 +37,9 @@ rows_once : (table : List ℕ) (schema : TableSchema) (files : Files) (current :
 rows_once table schema files current one other =
     let same : ◌≡◌ {A = Result (List (List Value)) LoadFault} (Ok one.rows) (Ok other.rows) = sym one.told ∙ other.told in
     cc
+
+higher : (low middle high : ℕ) → low ≤ middle → middle ≤ high → low ≤ high
+higher low middle high h k = omega (arith, h, k)
 
 -- before its plan a session has nothing of any statement
 pub idle : (table : List ℕ) (schema : TableSchema) (sources : List Source) (files : Files) (session : Session)
@@ -122,6 +126,8 @@ module _ (table : List ℕ) (schema : TableSchema) (sources : List Source) (stat
   unfolding IsRun
   begins session at held = record {
     last = first;
+    up = omega arith;
+    below = λ name is_version most. refl;
     still = begun;
     run = (refl, sym at);
     serial_rows = serial_begins schema.columns sources begun.rows;
@@ -136,6 +142,8 @@ module _ (table : List ℕ) (schema : TableSchema) (sources : List Source) (stat
       → Finished table schema sources statements start first place begun files steps
   finishes files session steps running through = record {
     last = running.last;
+    up = running.up;
+    below = running.below;
     to = session.place;
     still = running.still;
     run = running.run;
@@ -170,6 +178,8 @@ module _ (table : List ℕ) (schema : TableSchema) (sources : List Source) (stat
         (subst (λ (rows : List (List Value)). LeavesRows sources schema.columns s stepped.answer rows step.still.rows) (rows_once table schema old running.last step.was running.still) step.rows)) in
         record {
           last = step.next;
+          up = higher first running.last step.next running.up step.up;
+          below = λ name is_version most. step.below name is_version (higher (version_of_name (version_prefix table) name) first running.last most running.up) ∙ running.below name is_version most;
           still = step.still;
           run = made;
           serial_rows = serial_rows;
@@ -188,6 +198,11 @@ module _ (table : List ℕ) (schema : TableSchema) (sources : List Source) (stat
     ends before now fault either = (
       record {
         last = running.last;
+        up = running.up;
+        below = λ name is_version most.
+            (let low : version_of_name (version_prefix table) name ≤ running.last = higher (version_of_name (version_prefix table) name) first running.last most running.up in
+            ⊎_elim (λ same. same.below name is_version low) (λ flight. flight.1.below name is_version low) either)
+            ∙ running.below name is_version most;
         run = run_stands table sources old new statements kept steps first running.last place session.place running.run;
         left =
             ⊎_elim

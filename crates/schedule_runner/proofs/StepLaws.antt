@@ -30,7 +30,7 @@ module _ (table : List ℕ) (schema : TableSchema) (sources : List Source) (stat
       → (ended : Ended table schema sources statements start first place begun old session.place items before now fault) × (ended.last ≡ running.last)
   unmade old before now fault same running =
       subst (λ (xs : List Stepped). (ended : Ended table schema sources statements start first place begun old session.place xs before now fault) × (ended.last ≡ running.last)) (sym same)
-      (record { last = running.last; run = running.run; left = inl (record { still = running.still; serial_rows = running.serial_rows }); way = running.way }, refl)
+      (record { last = running.last; up = running.up; below = running.below; run = running.run; left = inl (record { still = running.still; serial_rows = running.serial_rows }); way = running.way }, refl)
 
   module _ (old new : Files) (kept : KeepsFiles (Some old) (Some new)) (running : Running table schema sources statements start first place begun old session steps) where
     pub ended : (before now : ℕ) (fault : RunFault) → items ≡ steps

@@ -1,7 +1,7 @@
 -- A session at work on an open table (Iceberg specification, "Optimistic Concurrency"; SQL standard, "Data manipulation"): its steps
 -- so far are the machine's over the files that are there, the table is open, and its rows are those of the serial run of the
 -- statements that were carried out; and so it is at each version on the way.
-use Rattle.std.specs.Prelude.{◌≡◌, ◌+◌, ◌⊎◌, ℕ, codes, List, [], ◌∷◌, ◌++◌, None, Ok, Some, slice_get}
+use Rattle.std.specs.Prelude.{◌≡◌, ◌≤◌, ◌+◌, ◌⊎◌, ℕ, codes, List, [], ◌∷◌, ◌++◌, None, Ok, Some, slice_get}
 use Rattle.row_values.specs.declared.schema.TableSchema.{TableSchema}
 use Rattle.row_values.specs.declared.value.Value.{Value}
 use Rattle.sql_statements.specs.declared.statement.Source.{Source}
@@ -14,7 +14,7 @@ use Rattle.session_machine.specs.declared.place.Place.{Place}
 use Rattle.session_steps.specs.Open.{IsOpen}
 use Rattle.session_steps.specs.declared.fault.RunFault.{RunFault}
 use Rattle.session_steps.specs.declared.session.Session.{Session}
-use Rattle.session_steps.specs.Steps.{IsHeld, MayCommit}
+use Rattle.session_steps.specs.Steps.{IsHeld, KeepsVersions, MayCommit}
 use Rattle.schedule_runner.specs.Runs.{IsRun, IsSerial, told_in}
 
 -- of a session of these statements, which began at this place on a table that was open at this version
@@ -34,6 +34,8 @@ module _ (table : List ℕ) (schema : TableSchema) (sources : List Source) (stat
 
   pub record Running (files : Files) (session : Session) (steps : List Stepped) : Type 0 where
     pub last : ℕ
+    pub up : first ≤ last
+    pub below : KeepsVersions table first start files
     pub still : IsOpen table schema files last
     pub run : IsRun table sources files statements first place steps last session.place
     pub serial_rows : IsSerial schema.columns sources begun.rows (told_in statements steps) still.rows
@@ -43,6 +45,8 @@ module _ (table : List ℕ) (schema : TableSchema) (sources : List Source) (stat
   -- all its statements are answered
   pub record Finished (files : Files) (steps : List Stepped) : Type 0 where
     pub last : ℕ
+    pub up : first ≤ last
+    pub below : KeepsVersions table first start files
     pub to : Place
     pub still : IsOpen table schema files last
     pub run : IsRun table sources files statements first place steps last to
@@ -66,6 +70,8 @@ module _ (table : List ℕ) (schema : TableSchema) (sources : List Source) (stat
   -- a step was not made to its end, between these counts of the store's faults
   pub record Ended (files : Files) (to : Place) (steps : List Stepped) (before now : ℕ) (fault : RunFault) : Type 0 where
     pub last : ℕ
+    pub up : first ≤ last
+    pub below : KeepsVersions table first start files
     pub run : IsRun table sources files statements first place steps last to
     pub left : IsLeft files steps last ⊎ (MayCommit to.phase fault before now × IsInFlight files steps last to)
     pub way : ArePassed files steps

@@ -93,7 +93,7 @@ module _ (table : List ℕ) (schema : TableSchema) (sources : List Source) (s : 
   Ended f = (now : Files) × (new ≡ Some now) × EndsOf table schema sources (Some s) files now current session.place before after f
 
   same_ends : (f : RunFault) → new ≡ old → Ended f
-  same_ends f same = (files, same ∙ told, inl (record { was = was; still = was; rows = refl }))
+  same_ends f same = (files, same ∙ told, inl (record { was = was; below = λ name is_version most. refl; still = was; rows = refl }))
 
   told_after : new ≡ option_map (swapped has.prepared.name has.prepared.bytes) old → new ≡ Some later
   told_after e = e ∙ ap (option_map (swapped has.prepared.name has.prepared.bytes)) told

@@ -96,6 +96,8 @@ module _ (table : List ℕ) (schema : TableSchema) (sources : List Source) (s : 
     answers_it rows = record {
       was = is;
       next = current;
+      up = omega arith;
+      below = λ name version most. refl;
       turned = turns (Some said) answered turned;
       still = is;
       rows = rows;
@@ -121,6 +123,8 @@ module _ (table : List ℕ) (schema : TableSchema) (sources : List Source) (s : 
     goes_on_with answered turned pending held at work = record {
       was = is;
       next = current;
+      up = omega arith;
+      below = λ name version most. same_versions name version;
       turned = turns None answered turned;
       still = stays.0;
       rows = subst (λ (rows : List (List Value)). LeavesRows sources schema.columns s stepped.answer is.rows rows) (sym stays.1) (none_leaves sources schema.columns s is.rows stepped.answer (ap (λ (t : Turned). t.stepped.answer) (sym turned)));

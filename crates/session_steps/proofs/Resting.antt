@@ -67,11 +67,11 @@ module _ (table : List ℕ) (schema : TableSchema) (files : Files) (current : �
   as_before : (later : Files) → KeepsFiles (Some files) (Some later) → LeavesRest table names (Some files) (Some later)
       → IsAsBefore table schema files later current
   as_before later kept rest =
-      let still = stays_open table schema files later current was kept
-      (λ q is_version. rest q (λ n above. not_of q (data_name table names.run names.session n) is_version
-      (of_data table names.session names.run n)) (λ n above. not_of q (metadata_name table names.run names.session n) is_version
-      (of_metadata table names.session names.run n))) in
-      record { was = was; still = still.0; rows = still.1 }
+      let same = λ (q : List ℕ) (is_version : 0 < version_of_name (version_prefix table) q). rest q
+      (λ n above. not_of q (data_name table names.run names.session n) is_version (of_data table names.session names.run n))
+      (λ n above. not_of q (metadata_name table names.run names.session n) is_version (of_metadata table names.session names.run n)) in
+      let still = stays_open table schema files later current was kept same in
+      record { was = was; below = λ q is_version most. same q is_version; still = still.0; rows = still.1 }
 
   pub ends_as_before : (sources : List Source) (s : Statement) (place : Place) (before now : ℕ) (f : RunFault) (found : Option Statement) (old new : Option Files)
       → found ≡ Some s → old ≡ Some files → KeepsFiles old new → LeavesRest table names old new

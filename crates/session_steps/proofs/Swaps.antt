@@ -1,5 +1,5 @@
 -- Where the version that a session prepared is swapped in, the table is open at it, and nothing else is changed.
-use Rattle.std.proofs.Common.{◌≡◌, ◌≢◌, ◌+◌, ℕ, Bool, cond, is_some, List, Option, Some, None, Result, Ok, codes, length, refl, sym, ap, subst, ◌∙◌, arith}
+use Rattle.std.proofs.Common.{◌≡◌, ◌≢◌, ◌≤◌, ◌+◌, ℕ, Bool, cond, is_some, List, Option, Some, None, Result, Ok, codes, length, refl, sym, ap, subst, ◌∙◌, arith}
 use Rattle.std.specs.FinMap as map
 use Rattle.std.proofs.lemmas.Bool.{eq-eqb}
 use Rattle.plain_types.specs.Bags.{SameBag}
@@ -29,7 +29,7 @@ use Rattle.session_steps.proofs.NextOpen.{stays_open}
 use Rattle.session_steps.proofs.OneTable.{base_read}
 use Rattle.session_steps.proofs.OneVersion.{base_version, missing, name, small}
 use Rattle.session_steps.specs.declared.session.Session.{Session}
-use Rattle.session_steps.specs.Steps.{HasPrepared, InPhase, IsCarriedOut, IsCommitted, IsStep, LeavesRows}
+use Rattle.session_steps.specs.Steps.{HasPrepared, InPhase, IsCarriedOut, IsCommitted, IsStep, KeepsVersions, LeavesRows}
 
 -- ---- a swap under a name that is not there
 
@@ -63,6 +63,9 @@ module _ (table : List ℕ) (schema : TableSchema) (sources : List Source) (s : 
   is_version =
       ap (version_of_name (version_prefix table)) (name table schema sources s files current has.pending version was has.work)
       ∙ is_of table (current + 1) (omega arith) (small table schema sources s files current has.pending version was has.work)
+
+  too_late : (n : ℕ) → n ≡ current + 1 → n ≤ current → ⊥
+  too_late n is most = omega (arith, is, most)
 
   other_name : (q : List ℕ) → version_of_name (version_prefix table) q ≡ 0 → q ≢ version.name
   other_name q none same =
@@ -99,8 +102,12 @@ module _ (table : List ℕ) (schema : TableSchema) (sources : List Source) (s : 
     seen_is : session.place.seen ≡ current
     seen_is = has.seen ∙ is_current
 
+    -- no version up to the current one is new
+    below : KeepsVersions table current files later
+    below q version most = beside q (λ same. too_late (version_of_name (version_prefix table) q) (ap (version_of_name (version_prefix table)) same ∙ is_version) most)
+
     pub committed : IsCommitted table schema sources s files later current session.place.seen
-    committed = record { was = was; saw = seen_is; next = next_open.0; rows = carried }
+    committed = record { was = was; saw = seen_is; below = below; next = next_open.0; rows = carried }
 
     -- ---- the machine
 
@@ -126,6 +133,8 @@ module _ (table : List ℕ) (schema : TableSchema) (sources : List Source) (s : 
       won = record {
         was = was;
         next = current + 1;
+        up = omega arith;
+        below = below;
         turned = ap (turn_of table sources files current session.place s) swaps ∙ turns ∙ ap (λ (t : Turned). (let r : Result Turned LoadFault = Ok t in r)) turns_so;
         still = next_open.0;
         rows = subst (λ (a : Option Answer). LeavesRows sources schema.columns s a was.rows next_open.0.rows) (ap (λ (t : Turned). t.stepped.answer) turned) carried;

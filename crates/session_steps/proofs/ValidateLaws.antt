@@ -253,6 +253,8 @@ module _ (table : List ℕ) (schema : TableSchema) (sources : List Source) (s : 
           step_is is_validate stepped turned = record {
             was = was;
             next = current;
+            up = omega arith;
+            below = λ name is_version most. versions_stay table names old new others name is_version;
             turned = turn_is is_validate planned session.place stepped turned;
             still = stays.0;
             rows = rows_are is_validate planned session.place stepped turned;

@@ -2,6 +2,7 @@
 -- step is the machine's over the files that were there, the table stays open, and the rows of `main` are, as a bag, those that the
 -- statement leaves where the step answers that it is committed or changes nothing, and else as they were.
 use Rattle.std.specs.Prelude.{◌≡◌, ◌≢◌, ◌⊎◌, option_map, codes, length, slice_get, ◌+◌, ◌<◌, ◌≤◌, ◌^◌, ℕ, IsSome, List, Option, Some, None, Ok}
+use Rattle.std.specs.FinMap as map
 use Rattle.std.specs.List.{AllByRecursion}
 use Rattle.plain_types.specs.Bags.{SameBag}
 use Rattle.plain_types.specs.Causes.{Rose, RoseTwice}
@@ -77,10 +78,17 @@ LeavesRows sources columns s other before after = after ≡ before
 
 -- ---- steps
 
+-- no version up to this one comes or goes
+abbrev pub KeepsVersions : List ℕ → ℕ → Files → Files → Type 0
+KeepsVersions table last old new = (name : List ℕ) → 0 < version_of_name (version_prefix table) name
+    → version_of_name (version_prefix table) name ≤ last → map.get new name ≡ map.get old name
+
 pub record IsStep (table : List ℕ) (schema : TableSchema) (sources : List Source) (s : Statement) (old new : Files) (current : ℕ)
     (place : Place) (session : Session) (stepped : Stepped) : Type 0 where
   pub was : IsOpen table schema old current
   pub next : ℕ
+  pub up : current ≤ next
+  pub below : KeepsVersions table current old new
   pub turned : turn_of table sources old current place s place.phase ≡ Ok (record { current = next; place = session.place; stepped = stepped })
   pub still : IsOpen table schema new next
   pub rows : LeavesRows sources schema.columns s stepped.answer was.rows still.rows
@@ -139,11 +147,13 @@ MayCommit other fault before now = ⊥
 pub record IsCommitted (table : List ℕ) (schema : TableSchema) (sources : List Source) (s : Statement) (old new : Files) (current seen : ℕ) : Type 0 where
   pub was : IsOpen table schema old current
   pub saw : seen ≡ current
+  pub below : KeepsVersions table current old new
   pub next : IsOpen table schema new (current + 1)
   pub rows : IsCarriedOut sources schema.columns s was.rows next.rows
 
 pub record IsAsBefore (table : List ℕ) (schema : TableSchema) (old new : Files) (current : ℕ) : Type 0 where
   pub was : IsOpen table schema old current
+  pub below : KeepsVersions table current old new
   pub still : IsOpen table schema new current
   pub rows : still.rows ≡ was.rows
 
