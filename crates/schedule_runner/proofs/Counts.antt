@@ -65,6 +65,8 @@ module _ (table : List ℕ) (schema : TableSchema) (sources : List Source) (stat
     to = is.to;
     ended = record {
       last = is.ended.last;
+      up = is.ended.up;
+      below = is.ended.below;
       run = is.ended.run;
       left = left_wider files steps is.ended.last is.to fault before middle now later below above is.ended.left;
       way = is.ended.way;

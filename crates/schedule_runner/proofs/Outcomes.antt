@@ -69,7 +69,7 @@ pub unbegun : (table : List ℕ) (schema : TableSchema) (sources : List Source) 
 unfolding IsRun
 unbegun table schema sources statements start first place begun before now fault which cause = record {
   to = place;
-  ended = record { last = first; run = (refl, refl); left = inl (record { still = begun; serial_rows = serial_begins schema.columns sources begun.rows }); way = way_begins table schema sources statements start first place begun };
+  ended = record { last = first; up = omega arith; below = λ name is_version most. refl; run = (refl, refl); left = inl (record { still = begun; serial_rows = serial_begins schema.columns sources begun.rows }); way = way_begins table schema sources statements start first place begun };
   at_hand = which;
   cause = cause;
 }
@@ -127,7 +127,7 @@ module _ (table : List ℕ) (schema : TableSchema) (sources : List Source) (stat
           made.1,
           record {
             to = session.place;
-            ended = record { last = made.2.last; run = made.2.run; left = inl (record { still = made.2.still; serial_rows = made.2.serial_rows }); way = made.2.way };
+            ended = record { last = made.2.last; up = made.2.up; below = made.2.below; run = made.2.run; left = inl (record { still = made.2.still; serial_rows = made.2.serial_rows }); way = made.2.way };
             at_hand = tt;
             cause = tt;
           },
