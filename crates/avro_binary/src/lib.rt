@@ -23,7 +23,6 @@ mod schema_reader;
 mod schema_text;
 mod schema_writer;
 mod word;
-mod write;
 mod writing;
 mod writing_laws;
 mod writing_leaf;
@@ -38,8 +37,7 @@ pub use schema::{Field, Logical, Schema};
 pub use schema_fault::SchemaFault;
 pub use schema_reader::read_schema;
 pub use schema_writer::write_schema;
-pub use write::write_datum;
-pub use writing::put_each;
+pub use writing::{put_datum, put_each};
 pub use writing_laws::{
     numbers_are_spelled_shortest, the_text_of_a_schema_is_read, what_is_read_fits,
     what_is_written_is_read,

@@ -9,6 +9,10 @@ use crate::datum::{Datum, MapPair};
 use crate::writing_leaf::{put_boolean, put_bytes, put_counted, put_natural, put_signed};
 use std::alloc::AllocError;
 
+/// Writes a datum at the end of `out`: each number by its shortest spelling, and an array or a map in one block. The
+/// spelling is the datum's alone, so no schema is asked for.
+///
+/// Where memory runs out, `out` has what it had, and may have a part of the spelling behind it.
 #[cycle(writing)]
 pub fn put_datum(datum: &Datum, out: &mut Vec<u8>) -> Result<(), AllocError>
     ensures { Appends out.old.items out.new.items (spelling datum.now) result }

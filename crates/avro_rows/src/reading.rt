@@ -1,5 +1,6 @@
 //! The rows of a container.
-ghost use Rattle.std.specs.Prelude.{◌≡◌, ◌≢◌, [], IfOk, IfErr, Ok, Err};
+ghost use Rattle.std.specs.Prelude.{◌≡◌, [], IfOk};
+ghost use Rattle.plain_types.specs.Answers.{Answers};
 ghost use Rattle.row_values.specs.Rows.{AreRows};
 ghost use Rattle.avro_rows.specs.Rows.{values_of, null_at, held_at, value_at, row_from, rows_from, rows_of};
 
@@ -34,8 +35,7 @@ fn null_at(source: &Source, row: u64) -> Result<Value, RowFault>
 
 /// The value of a datum that is in no union.
 fn held_at(alloc: Global, source: &Source, row: u64, datum: &Datum) -> Result<Value, RowFault>
-    ensures ok { IfOk result (λ v. held_at source.now row datum.now ≡ Ok v) }
-    ensures err { IfErr result (λ f. f ≢ RowFault.Memory → held_at source.now row datum.now ≡ Err f) }
+    ensures answers { Answers RowFault.Memory (λ v. v) result (held_at source.now row datum.now) }
 {
     if is_null_datum(datum) {
         return null_at(source, row);
@@ -48,8 +48,7 @@ fn held_at(alloc: Global, source: &Source, row: u64, datum: &Datum) -> Result<Va
 
 /// The column's value in a row of this number, whose record has these values.
 fn value_at(alloc: Global, source: &Source, row: u64, values: &[Datum]) -> Result<Value, RowFault>
-    ensures ok { IfOk result (λ v. value_at source.now row values.now ≡ Ok v) }
-    ensures err { IfErr result (λ f. f ≢ RowFault.Memory → value_at source.now row values.now ≡ Err f) }
+    ensures answers { Answers RowFault.Memory (λ v. v) result (value_at source.now row values.now) }
 {
     let Some(place) = source.place else {
         return null_at(source, row);
@@ -63,8 +62,7 @@ fn value_at(alloc: Global, source: &Source, row: u64, values: &[Datum]) -> Resul
 /// The row of this number, whose record has these values, or its first column's fault.
 #[tactic(auto, unfolding(crate::specs::Rows::row_from))]
 fn read_row(alloc: Global, sources: &[Source], row: u64, values: &[Datum]) -> Result<Row, RowFault>
-    ensures ok { IfOk result (λ vs. row_from row values.now [] sources.now ≡ Ok vs) }
-    ensures err { IfErr result (λ f. f ≢ RowFault.Memory → row_from row values.now [] sources.now ≡ Err f) }
+    ensures answers { Answers RowFault.Memory (λ vs. vs) result (row_from row values.now [] sources.now) }
 {
     let mut read = Vec::with_capacity(alloc, sources.len())?;
     let mut rest = sources;
@@ -79,8 +77,7 @@ fn read_row(alloc: Global, sources: &[Source], row: u64, values: &[Datum]) -> Re
 /// The rows of the records, or the first fault.
 #[tactic(auto, unfolding(crate::specs::Rows::rows_from))]
 fn read_records(alloc: Global, sources: &[Source], records: &[Datum]) -> Result<List<Row>, RowFault>
-    ensures ok { IfOk result (λ rows. rows_from sources.now [] records.now ≡ Ok rows) }
-    ensures err { IfErr result (λ f. f ≢ RowFault.Memory → rows_from sources.now [] records.now ≡ Err f) }
+    ensures answers { Answers RowFault.Memory (λ rows. rows) result (rows_from sources.now [] records.now) }
 {
     let mut rows = Vec::with_capacity(alloc, records.len())?;
     let mut rest = records;
@@ -100,9 +97,8 @@ pub fn read_rows(
     container: &Container,
     schema: &TableSchema,
 ) -> Result<List<Row>, RowFault>
-    ensures ok { IfOk result (λ rows. rows_of container.now schema.now.columns ≡ Ok rows) }
+    ensures answers { Answers RowFault.Memory (λ rows. rows) result (rows_of container.now schema.now.columns) }
     ensures rows { IfOk result (λ rows. AreRows schema.now.columns rows) }
-    ensures err { IfErr result (λ f. f ≢ RowFault.Memory → rows_of container.now schema.now.columns ≡ Err f) }
 {
     let sources = sources_of(
         alloc,

@@ -1,5 +1,6 @@
 //! Where the values of the columns stand in a record.
-ghost use Rattle.std.specs.Prelude.{◌≡◌, ◌≢◌, [], IfOk, IfErr, Ok, Err, length, ◌+◌};
+ghost use Rattle.std.specs.Prelude.{◌≡◌, [], length, ◌+◌};
+ghost use Rattle.plain_types.specs.Answers.{Answers};
 ghost use Rattle.avro_rows.specs.Sources.{has_id, carried, absent, source_from, sources_from, fields_of};
 
 use crate::RowFault;
@@ -82,8 +83,7 @@ pub(crate) fn sources_of(
     fields: &[Field],
     columns: &[Column],
 ) -> Result<Vec<Source>, RowFault>
-    ensures ok { IfOk result (λ sources. sources_from fields.now [] columns.now ≡ Ok sources.items) }
-    ensures err { IfErr result (λ f. f ≢ RowFault.Memory → sources_from fields.now [] columns.now ≡ Err f) }
+    ensures answers { Answers RowFault.Memory (λ sources. sources.items) result (sources_from fields.now [] columns.now) }
 {
     let mut sources = Vec::new(alloc);
     let mut rest = columns;

@@ -11,7 +11,6 @@ ghost use Rattle.std.specs.Prelude.{
   false,
   length,
   is_some,
-  option_copied,
   option_map,
   Err,
   IfErr,
@@ -27,7 +26,6 @@ ghost use Rattle.store_core.specs.Files.{KeepsFiles};
 ghost use Rattle.table_names.specs.FileNames.{NoneFrom};
 ghost use Rattle.table_metadata.specs.Metadata.{parts};
 ghost use Rattle.table_names.specs.Versions.{version_name};
-ghost use Rattle.table_metadata.specs.ById.{schema_with};
 ghost use Rattle.table_state.specs.Live.{data_files_of};
 ghost use Rattle.table_state.specs.States.{IsStateOf};
 ghost use Rattle.table_scan.specs.Scanning.{AreCurrentFiles, ReadsCurrent, scanned_at};
@@ -43,7 +41,7 @@ ghost use Rattle.branch_commit.specs.Planning.{CannotPlan, HasSchema, IsOfColumn
 use crate::current::load_current;
 use crate::outcome::{Outcome, Pending, PlanFault, Planned};
 use crate::plans::plan_of;
-use change_sets::{Decisions, ScannedFile};
+use change_sets::{Decisions, ScannedFile, is_absent};
 use cow_writer::write_copies;
 use plain_types::{List, Text};
 use row_values::TableSchema;
@@ -51,22 +49,10 @@ use sql_predicates::Pred;
 use sql_statements::{Source, Statement, filter_of};
 use std::alloc::Global;
 use store_core::Store;
-use table_metadata::{Metadata, schema_with};
+use table_metadata::current_schema;
 use table_names::{Names, version_name};
 use table_scan::{decide, scan};
 use table_state::{BranchState, LoadFault, State};
-
-fn is_absent(head: &BranchState) -> bool
-    ensures { result ≡ is_absent head.now }
-{
-    matches!(head, BranchState::Absent)
-}
-
-fn current_schema(metadata: &Metadata) -> Option<&TableSchema>
-    ensures { option_copied result ≡ schema_with metadata.now.current_schema metadata.now.schemas }
-{
-    schema_with(metadata.current_schema, metadata.schemas.as_slice())
-}
 
 // Whether this is the current schema of the version.
 fn has_schema(base: &State, schema: &TableSchema) -> bool

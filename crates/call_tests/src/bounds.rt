@@ -1,6 +1,6 @@
 //! The bounds of columns, as the standard spells single values.
 
-use kind_values::{Kind, List, Value, read_bound, write_bound};
+use kind_values::{Kind, List, Value, put_bound, read_bound};
 use row_values::Text;
 use std::alloc::{AllocError, Global};
 use std::test::Fail;
@@ -94,7 +94,7 @@ fn each_bound_is_written_as_its_bytes(rt: HostRuntime) -> Result<(), Fail> {
     ];
     for (value, want) in cases.iter() {
         let mut out = Vec::new(alloc);
-        write_bound(value, &mut out)?;
+        put_bound(value, &mut out)?;
         assert!(rt; out.as_slice() == *want, "{value:?}");
     }
     Ok(())

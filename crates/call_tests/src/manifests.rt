@@ -161,7 +161,7 @@ fn entry_comes_back(alloc: Global, status: u8) -> Result<bool, AllocError> {
     let entries = [entry(alloc, status)?];
     let bytes = write_manifest(alloc, &entries, &spec, &schema)?;
     match read_manifest(alloc, bytes.as_slice(), &row(alloc)?, &spec, &schema) {
-        Ok(read) => Ok(read.as_slice() == entries.as_slice()),
+        Ok(read) => Ok(read.as_slice() == entries.as_slice() && entries[0].is_live()),
         Err(_fault) => Ok(false),
     }
 }

@@ -1,9 +1,9 @@
 //! A whole document of metadata, after the standard's own.
 
 use iceberg_schema::{TransformFault, read_transform};
-use row_values::{Kind, Transform};
+use row_values::{Kind, Transform, has_id, has_name, kind_of_column};
 use std::test::Fail;
-use table_metadata::read_metadata;
+use table_metadata::{current_schema, read_metadata};
 
 // After the example of valid metadata in Iceberg's own tests.
 const GOOD: &str = r#"{
@@ -48,6 +48,12 @@ fn a_whole_document_is_read(rt: HostRuntime) -> Result<(), Fail> {
     assert_eq!(rt; (m.default_spec, m.last_partition), (3, 1001));
     assert_eq!(rt; m.current_snapshot, Some(3055729675574597004));
     let schema = m.schemas.get(1).ok_or("a second schema")?;
+    let current = current_schema(&m).ok_or("a current schema")?;
+    assert_eq!(rt; current.id, schema.id);
+    let columns = schema.columns.as_slice();
+    assert!(rt; has_id(4, columns));
+    assert!(rt; has_name("note", columns));
+    assert!(rt; kind_of_column(1, columns) == Some(Kind::Long));
     let amount = schema.columns.get(2).ok_or("a third column")?;
     assert_eq!(rt;
         amount.kind,

@@ -1,6 +1,6 @@
 //! Numbers in two's complement, as the standard spells them.
 
-use kind_values::{int_of, long_of, signed_of, write_signed};
+use kind_values::{int_of, long_of, put_signed, signed_of};
 use std::alloc::Global;
 
 #[test]
@@ -18,7 +18,7 @@ fn numbers_are_read_from_their_bytes(rt: HostRuntime) {
 
 fn is_written(alloc: Global, number: i128, bytes: &[u8]) -> bool {
     let mut out = Vec::new(alloc);
-    write_signed(number, &mut out).is_ok() && out.as_slice() == bytes
+    put_signed(number, &mut out).is_ok() && out.as_slice() == bytes
 }
 
 #[test]

@@ -38,5 +38,6 @@ fn values_of_one_kind_compare_and_others_do_not(rt: HostRuntime) -> Result<(), F
     for (at, (left, right, wanted)) in PLAIN.iter().enumerate() {
         assert!(rt; left.compare(right) == *wanted, "case {at}");
     }
+    assert!(rt; Value::Null.is_null());
     Ok(())
 }

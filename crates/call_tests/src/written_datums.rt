@@ -1,6 +1,6 @@
 //! Worked rows of what is written: a datum or a schema is read, and written again.
 
-use avro_binary::{read_datum, read_schema, write_datum, write_schema};
+use avro_binary::{put_datum, read_datum, read_schema, write_schema};
 use std::alloc::Global;
 
 /// Whether the datum that these bytes spell is written as the others.
@@ -12,7 +12,7 @@ fn writes(alloc: Global, schema: &[u8], bytes: &[u8], want: &[u8]) -> bool {
         return false;
     };
     let mut out = Vec::new(alloc);
-    write_datum(alloc, &schema, &datum, &mut out).is_ok() && out.as_slice() == want
+    put_datum(&datum, &mut out).is_ok() && out.as_slice() == want
 }
 
 fn writes_all(alloc: Global) -> bool {

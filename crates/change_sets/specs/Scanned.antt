@@ -2,8 +2,12 @@
 use Rattle.std.specs.Prelude.{List, map}
 use Rattle.std.specs.List.{flat_map}
 use Rattle.row_values.specs.declared.value.Value.{Value}
+use Rattle.manifest_files.specs.declared.entry.Entry.{Entry}
 use Rattle.change_sets.specs.declared.scanned.LiveRow.{LiveRow}
 use Rattle.change_sets.specs.declared.scanned.ScannedFile.{ScannedFile}
+
+abbrev pub entry_of : ScannedFile → Entry
+entry_of file = file.entry
 
 abbrev pub row_of : LiveRow → List Value
 row_of live = live.row

@@ -19,7 +19,7 @@ pub use change::{AddedAs, ChangeSet, Plan, added, kept, removed};
 pub use copies::{copy_entry, copy_manifest_row};
 pub use laws::rows_of_files_are_a_bag;
 pub use rule::Rule;
-pub use rules::verdict;
+pub use rules::{is_absent, verdict};
 pub use said::Said;
 pub use same::{is_among, is_same_file};
 pub use scanned::{Decision, Decisions, LiveRow, ScannedFile};

@@ -11,7 +11,8 @@ use plain_types::Text;
 use std::alloc::{AllocError, Global};
 use table_state::{BranchState, data_files_of};
 
-fn is_absent(head: &BranchState) -> bool
+/// Whether there is no such branch.
+pub fn is_absent(head: &BranchState) -> bool
     ensures { result ≡ is_absent head.now }
 {
     matches!(head, BranchState::Absent)

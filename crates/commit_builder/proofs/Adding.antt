@@ -24,20 +24,20 @@ use Rattle.manifest_writer.specs.Readable.{are_told, is_written}
 use Rattle.iceberg_schema.specs.Widths.{IsLong}
 use Rattle.row_writer.specs.RowDatum.{row_size}
 use Rattle.row_writer.specs.RowsText.{rows_text}
-use Rattle.table_state.specs.Form.{is_plain_table}
+use Rattle.table_state.specs.Form.{table_in_form}
 use Rattle.table_metadata.specs.declared.metadata.Metadata.{Metadata}
 use Rattle.table_metadata.specs.declared.metadata_fault.MetadataFault.TheVariants as metadata
 use Rattle.table_metadata.specs.Metadata.{parts}
 use Rattle.table_state.specs.declared.load_fault.LoadFault.TheVariants as fault
 use Rattle.table_state.specs.Files.{current_schema}
-use Rattle.table_metadata.specs.ById.{spec_with}
+use Rattle.table_metadata.specs.ById.{schema_with, spec_with}
 use Rattle.table_state.specs.declared.state.State.{State}
 use Rattle.table_state.specs.States.{IsStateOf}
 use Rattle.table_names.specs.Sessions.{HasNoSlash}
 use Rattle.change_sets.specs.declared.scanned.Decisions.{Decisions}
 use Rattle.change_sets.specs.declared.scanned.ScannedFile.{ScannedFile}
 use Rattle.commit_builder.proofs.Laying.{can_be_laid}
-use Rattle.commit_builder.specs.Commits.{live_in, schema_in, schema_of}
+use Rattle.commit_builder.specs.Commits.{live_in, schema_of}
 use Rattle.commit_manifests.specs.Drafts.{spec_in}
 use Rattle.commit_builder.specs.NextVersion.{AreNames, CanBeAdded, CanBeLaid}
 use Rattle.commit_builder.specs.SnapshotIds.{ids_of, last}
@@ -47,7 +47,7 @@ use Rattle.cow_writer.specs.Pieces.{file_bytes, file_rows, is_full, pieces_from,
 use Rattle.cow_writer.specs.Reading.{AreShort, CanBeRead, has_no_slash}
 use Rattle.commit_builder.specs.OneTable.{HasSchemasOf}
 use Rattle.commit_builder.proofs.Numbers.{has_numbers}
-use Rattle.commit_builder.proofs.PlainForm.{plain_specs, spec_is}
+use Rattle.commit_builder.proofs.FormLaws.{plain_specs, spec_is}
 use Rattle.commit_builder.proofs.Rewriting.{can_be_rewritten, current_columns, read_soundly, schema_stands}
 
 -- ---- a file has at most 65,536 rows
@@ -95,7 +95,7 @@ is_there : {A : Type 0} (o : Option A) (other : A) → IsSome o → o ≡ Some (
 is_there (Some a) other h = refl
 is_there None other h = absurd cc
 
-module _ (base : State) (version : ℕ) (files : Files) (is : IsStateOf base.table version base.branch files base) (form : is_plain_table (parts base.metadata) ≡ true) where
+module _ (base : State) (version : ℕ) (files : Files) (is : IsStateOf base.table version base.branch files base) (form : table_in_form (parts base.metadata) ≡ true) where
   abbrev spec : Spec
   spec = spec_in base.metadata.specs base.metadata.default_spec
 
@@ -161,7 +161,9 @@ module _ (base : State) (version : ℕ) (files : Files) (is : IsStateOf base.tab
 
 module _ (base head : State) (one : HasSchemasOf base head) where
   same_schema : schema_of base ≡ schema_of head
-  same_schema = ap (λ (id : ℤ). schema_in id base.metadata.schemas) (sym one.current) ∙ ap (λ (schemas : List TableSchema). schema_in head.metadata.current_schema schemas) (sym one.schemas)
+  same_schema =
+      let with : ℤ → List TableSchema → TableSchema = λ id schemas. by_option (schema_with id schemas) (λ schema. schema) (record { id = id; columns = [] }) in
+      ap (λ (id : ℤ). with id base.metadata.schemas) (sym one.current) ∙ ap (λ (schemas : List TableSchema). with head.metadata.current_schema schemas) (sym one.schemas)
 
   moved : (entry : Entry) → CanBeAdded base entry → CanBeAdded head entry
   moved entry h = record {
@@ -176,8 +178,8 @@ module _ (base head : State) (one : HasSchemasOf base head) where
 
 pub change_can_be_laid : (base head : State) (scanned : List ScannedFile) (decisions : Decisions) (pred : Pred)
     (names drawn : Names) (now : ℤ) (planned version : ℕ) (old files : Files) → IsStateOf base.table planned base.branch old base
-    → is_plain_table (parts base.metadata) ≡ true
-    → IsStateOf head.table version head.branch files head → is_plain_table (parts head.metadata) ≡ true → HasSchemasOf base head → int_lt head.metadata.last_sequence last ≡ true → IsLong now → length (ids_of head.metadata.snapshots (live_in head.head)) < 2 ^ 62
+    → table_in_form (parts base.metadata) ≡ true
+    → IsStateOf head.table version head.branch files head → table_in_form (parts head.metadata) ≡ true → HasSchemasOf base head → int_lt head.metadata.last_sequence last ≡ true → IsLong now → length (ids_of head.metadata.snapshots (live_in head.head)) < 2 ^ 62
     → AreShort (schema_of base).columns (pieces_in base scanned decisions) → CanBeLaid head (change_of base scanned decisions pred names) drawn now
 change_can_be_laid base head scanned decisions pred names drawn now planned version old files based base_form is form one small hour few short =
     can_be_laid head (change_of base scanned decisions pred names) drawn now version files is (has_numbers head now version files is small hour few) (can_be_rewritten head version files is form)

@@ -18,7 +18,7 @@ use Rattle.commit_manifests.specs.Listed as told
 use Rattle.manifest_writer.specs.EntryDatum.{entry_size}
 use Rattle.manifest_writer.specs.ListDatum.{counts, has_bounds, is_listed}
 use Rattle.manifest_writer.specs.Readable.{is_written}
-use Rattle.manifest_writer.specs.Value.{is_bound, is_count}
+use Rattle.manifest_writer.specs.Value.{is_count}
 use Rattle.manifest_files.specs.declared.manifest_fault.ManifestFault.{ManifestFault}
 use Rattle.manifest_files.specs.declared.manifest_fault.ManifestFault.TheVariants as manifest
 use Rattle.manifest_files.specs.Entries.{entries_of}
@@ -189,28 +189,9 @@ module _ (P : ℤ → Entry → Type 0) (specs : List Spec) (schema : TableSchem
 
 -- ---- rows
 
-bound_is : (o : Option Value) → told.is_bound o ≡ true → is_bound o ≡ true
-bound_is None h = refl
-bound_is (Some value.Null) h = absurd (true≢false (sym h))
-bound_is (Some (value.Bool b)) h = absurd (true≢false (sym h))
-bound_is (Some (value.Int n)) h = absurd (true≢false (sym h))
-bound_is (Some (value.Long n)) h = absurd (true≢false (sym h))
-bound_is (Some (value.Date n)) h = absurd (true≢false (sym h))
-bound_is (Some (value.Timestamp n)) h = absurd (true≢false (sym h))
-bound_is (Some (value.Decimal n scale)) h = absurd (true≢false (sym h))
-bound_is (Some (value.Text bytes)) h = absurd (true≢false (sym h))
-bound_is (Some (value.Bytes bytes)) h = refl
-
 count_is : (bits : ℕ) (o : Option ℤ) → told.is_count bits o ≡ true → is_count o ≡ true
 count_is bits None h = refl
 count_is bits (Some n) h = first (int_le (pos 0) n) (int_lt n (pos (2 ^ bits))) h
-
-bounds_are : (summaries : List Summary) → list_all told.has_bounds summaries ≡ true → list_all has_bounds summaries ≡ true
-bounds_are [] h = refl
-bounds_are (s ∷ summaries) h =
-    let own : told.has_bounds s ≡ true = first (told.has_bounds s) (list_all told.has_bounds summaries) h in
-    both (has_bounds s) (list_all has_bounds summaries) (both (is_bound s.lower) (is_bound s.upper) (bound_is s.lower (first (told.is_bound s.lower) (told.is_bound s.upper) own)) (bound_is s.upper (second (told.is_bound s.lower) (told.is_bound s.upper) own)))
-    (bounds_are summaries (second (told.has_bounds s) (list_all told.has_bounds summaries) h))
 
 two_counts : (b : ℕ) (o : Option ℤ) (rest other : Bool) → (told.is_count b o && rest) ≡ true → (rest ≡ true → other ≡ true) → (is_count o && other) ≡ true
 two_counts b o rest other h more = both (is_count o) other (count_is b o (first (told.is_count b o) rest h)) (more (second (told.is_count b o) rest h))
@@ -227,8 +208,8 @@ counts_are row h =
 -- a row that can be listed is read again
 pub listed_is : (row : ManifestRow) → told.can_be_listed row ≡ true → is_listed row ≡ true
 listed_is row h =
-    let rest = second (told.has_length row) (told.has_counts row && list_all told.has_bounds row.partitions) h in
-    both (counts row) (list_all has_bounds row.partitions) (counts_are row (first (told.has_counts row) (list_all told.has_bounds row.partitions) rest)) (bounds_are row.partitions (second (told.has_counts row) (list_all told.has_bounds row.partitions) rest))
+    let rest = second (told.has_length row) (told.has_counts row && list_all has_bounds row.partitions) h in
+    both (counts row) (list_all has_bounds row.partitions) (counts_are row (first (told.has_counts row) (list_all has_bounds row.partitions) rest)) (second (told.has_counts row) (list_all has_bounds row.partitions) rest)
 
 -- ---- entries under other statuses and numbers
 

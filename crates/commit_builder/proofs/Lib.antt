@@ -8,7 +8,7 @@ mod Next
 mod NextHead
 mod Numbers
 mod Parts
-mod PlainForm
+mod FormLaws
 mod Puts
 mod Reading
 mod Rewriting

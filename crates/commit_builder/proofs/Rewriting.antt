@@ -19,7 +19,7 @@ use Rattle.plain_types.specs.Steps.{by_option}
 use Rattle.row_writer.specs.Readable.{AreColumns}
 use Rattle.table_metadata.proofs.CallerLemmas.{sound}
 use Rattle.table_metadata.specs.Sound.{IsReadSpec, IsSoundMetadata}
-use Rattle.table_state.specs.Form.{is_plain_table}
+use Rattle.table_state.specs.Form.{table_in_form}
 use Rattle.table_metadata.specs.Metadata.{parts}
 use Rattle.table_metadata.specs.ById.{schema_with, spec_with}
 use Rattle.table_state.specs.declared.state.State.{State}
@@ -27,7 +27,7 @@ use Rattle.table_state.specs.States.{IsStateOf}
 use Rattle.commit_builder.specs.Commits.{schema_of}
 use Rattle.commit_builder.specs.NextVersion.{CanBeRewritten}
 use Rattle.commit_manifests.proofs.CallerLemmas.{both}
-use Rattle.commit_builder.proofs.PlainForm.{columns_are, int_is_id, schema_kinds}
+use Rattle.commit_builder.proofs.FormLaws.{columns_are, int_is_id, schema_kinds}
 
 -- ---- a spec that was read can be written
 
@@ -75,7 +75,7 @@ module _ (state : State) (version : ℕ) (files : Files) (is : IsStateOf state.t
   pub schema_stands : schema_with state.metadata.current_schema state.metadata.schemas ≡ Some (schema_of state)
   schema_stands = read_soundly.current.stands ∙ ap Some (sym schema_is)
 
-  module _ (form : is_plain_table (parts state.metadata) ≡ true) where
+  module _ (form : table_in_form (parts state.metadata) ≡ true) where
     pub kinds : IsTrue (list_all (λ column. is_kind column.kind) (schema_of state).columns)
     kinds = schema_kinds (parts state.metadata) (schema_of state) form schema_stands
 

@@ -17,7 +17,7 @@ use Rattle.table_metadata.specs.declared.snapshots.Snapshot.{Snapshot}
 use Rattle.table_state.specs.declared.live_set.BranchState.{BranchState}
 use Rattle.table_state.specs.declared.live_set.BranchState.TheVariants as state
 use Rattle.table_state.specs.declared.live_set.LiveSet.{LiveSet}
-use Rattle.table_metadata.specs.ById.{schema_with}
+use Rattle.cow_writer.specs.Copies as copies
 use Rattle.table_names.specs.Paths.{folder_of}
 use Rattle.table_state.specs.declared.state.State.{State}
 use Rattle.table_state.specs.States.{manifests_of}
@@ -39,10 +39,6 @@ abbrev pub parent_of : BranchState → Option ℤ
 parent_of state.Absent = None
 parent_of state.Empty = None
 parent_of (state.Head snapshot manifests live) = Some snapshot
-
--- the schema with an id, which all metadata has
-abbrev pub schema_in : ℤ → List TableSchema → TableSchema
-schema_in id schemas = by_option (schema_with id schemas) (λ schema. schema) (record { id = id; columns = [] })
 
 -- the numbers of the files that a commit adds: the next sequence number, and the id of its snapshot
 abbrev pub numbers_of : ℤ → List Snapshot → LiveSet → AddedAs
@@ -91,7 +87,7 @@ abbrev pub commit_numbers : AddedAs → CommitNumbers
 commit_numbers numbers = record { seq = numbers.file_seq; snapshot = numbers.snapshot }
 
 abbrev pub schema_of : State → TableSchema
-schema_of head = schema_in head.metadata.current_schema head.metadata.schemas
+schema_of head = copies.schema_of head.metadata
 
 -- the manifests that it writes, and those of the head that stand
 abbrev pub sorted_in : State → ChangeSet → Sorted

@@ -19,7 +19,6 @@ ghost use Rattle.commit_builder.specs.Commits.{
   operation_of,
   manifests_after,
   rows_in,
-  schema_in,
   schema_of,
   snapshot_at,
 };
@@ -30,9 +29,10 @@ ghost use Rattle.commit_manifests.specs.Sorting.{seen_sorted, sorted_of};
 ghost use Rattle.table_state.specs.States.{manifests_of};
 
 use crate::head::{live_in, manifests_of, no_files, numbers_of, parent_of};
-use crate::writing::{put_manifests, put_next};
+use crate::writing::put_manifests;
 use change_sets::{AddedAs, ChangeSet, Plan};
 use commit_manifests::{Commit, CommitNumbers, Sorted};
+use cow_writer::schema_of;
 use manifest_files::ManifestRow;
 use manifest_writer::write_list;
 use metadata_writer::text_with_snapshot;
@@ -40,8 +40,8 @@ use plain_types::{List, Text};
 use row_values::TableSchema;
 use std::alloc::{AllocError, Global};
 use store_core::{Blob, Store};
-use table_metadata::{Snapshot, schema_with};
-use table_names::{Names, folder_of, version_name};
+use table_metadata::Snapshot;
+use table_names::{Folder, Names, folder_of, put_next, version_name};
 use table_state::{LiveSet, LoadFault, State};
 
 /// The metadata of the next version, which isn't in the store yet.
@@ -94,9 +94,11 @@ fn put_list<S: Store>(
     let folder = folder_of(head.metadata.location.as_str());
     let path = Text::from_string(names.metadata_path(alloc, folder)?);
     let bytes = write_list(alloc, rows)?.into_vec();
-    match put_next(alloc, store, head.table.as_str(), names, bytes.as_slice()) {
+    let bytes = bytes.as_slice();
+    let table = head.table.as_str();
+    match put_next(alloc, store, table, names, Folder::Metadata, bytes) {
         Ok(()) => Ok(path),
-        Err(fault) => Err(fault),
+        Err(fault) => Err(LoadFault::from(fault)),
     }
 }
 
@@ -195,7 +197,7 @@ fn put_files<S: Store>(
 {
     let id = head.metadata.current_schema;
     let plain = no_columns(alloc, id);
-    let schema = schema_or(id, head.metadata.schemas.as_slice(), &plain);
+    let schema = schema_of(&head.metadata, &plain);
     let rows = match put_rows(alloc, store, head, schema, numbers, change, names) {
         Ok(rows) => rows,
         Err(fault) => return Err(fault),
@@ -210,17 +212,6 @@ fn no_columns(alloc: Global, id: i32) -> TableSchema
     TableSchema {
         id,
         columns: List::new(alloc),
-    }
-}
-
-// The schema with an id, or this one.
-fn schema_or<'a>(id: i32, schemas: &'a [TableSchema], none: &'a TableSchema) -> &'a TableSchema
-    requires { none.now ≡ record { id = id; columns = [] } }
-    ensures { result.now ≡ schema_in id schemas.now }
-{
-    match schema_with(id, schemas) {
-        Some(schema) => schema,
-        None => none,
     }
 }
 

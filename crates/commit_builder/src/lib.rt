@@ -16,7 +16,7 @@ mod writing;
 
 pub use commit::{Prepared, prepare};
 pub use form_laws::{
-    a_change_of_a_plain_table_can_be_laid, a_plain_table_can_be_rewritten, a_table_has_numbers,
+    a_change_of_a_table_in_form_can_be_laid, a_table_has_numbers, a_table_in_form_can_be_rewritten,
     a_written_file_can_be_added, written_files_can_be_read,
 };
 pub use laws::{

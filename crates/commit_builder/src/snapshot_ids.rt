@@ -10,7 +10,7 @@ use std::alloc::{AllocError, Global};
 use table_metadata::Snapshot;
 use table_state::LiveSet;
 
-fn push_snapshots(snapshots: &[Snapshot], ids: &mut Vec<i64>) -> Result<(), AllocError>
+fn put_snapshots(snapshots: &[Snapshot], ids: &mut Vec<i64>) -> Result<(), AllocError>
     ensures { Appends ids.old.items ids.new.items (map snapshot_id snapshots.now) result }
 {
     for snapshot in snapshots {
@@ -19,7 +19,7 @@ fn push_snapshots(snapshots: &[Snapshot], ids: &mut Vec<i64>) -> Result<(), Allo
     Ok(())
 }
 
-fn push_entries(entries: &[Entry], ids: &mut Vec<i64>) -> Result<(), AllocError>
+fn put_entries(entries: &[Entry], ids: &mut Vec<i64>) -> Result<(), AllocError>
     ensures { Appends ids.old.items ids.new.items (map entry_snapshot entries.now) result }
 {
     for entry in entries {
@@ -33,9 +33,9 @@ fn ids_of(alloc: Global, snapshots: &[Snapshot], live: &LiveSet) -> Result<Vec<i
     ensures { IfOk result (λ ids. ids.items ≡ ids_of snapshots.now live.now) }
 {
     let mut ids = Vec::new(alloc);
-    push_snapshots(snapshots, &mut ids)?;
-    push_entries(live.data_files.as_slice(), &mut ids)?;
-    push_entries(live.deletes.as_slice(), &mut ids)?;
+    put_snapshots(snapshots, &mut ids)?;
+    put_entries(live.data_files.as_slice(), &mut ids)?;
+    put_entries(live.deletes.as_slice(), &mut ids)?;
     Ok(ids)
 }
 

@@ -1,13 +1,13 @@
-//! Puts under the next names of manifests and manifest lists.
+//! Puts manifests under the next names.
 ghost use Rattle.std.specs.Prelude.{◌≡◌, ◌<◌, ◌≤◌, ◌+◌, ◌^◌, ◌⊎◌, [], option_map, length, is_some, IfOk, IfErr, IsErrOf, OnOk};
 ghost use Rattle.std.specs.List.{AllByRecursion};
 ghost use Rattle.std.specs.Option.{ForSome};
 ghost use Rattle.plain_types.specs.Causes.{HasCause};
-ghost use Rattle.store_core.specs.Files.{KeepsFiles, with_file};
+ghost use Rattle.store_core.specs.Files.{KeepsFiles};
 ghost use Rattle.table_names.specs.FileNames.{NoneFrom};
 ghost use Rattle.commit_manifests.specs.Rows.{row_of};
 ghost use Rattle.table_names.specs.Paths.{folder_of};
-ghost use Rattle.commit_builder.specs.Commits.{drawn, files_from, next_name, row_in, rows_from, text_in, IsSpelled};
+ghost use Rattle.commit_builder.specs.Commits.{files_from, next_name, row_in, rows_from, text_in, IsSpelled};
 ghost use Rattle.commit_manifests.specs.Drafts.{spec_in};
 ghost use Rattle.commit_builder.specs.Puts.{PutsManifests};
 
@@ -19,36 +19,8 @@ use row_values::{Spec, TableSchema};
 use std::alloc::{AllocError, Global};
 use store_core::Store;
 use table_metadata::spec_with;
-use table_names::{Names, folder_of};
+use table_names::{Folder, Names, folder_of, put_next};
 use table_state::{LoadFault, State};
-
-/// Puts bytes under the next name of a manifest or a list.
-pub(crate) fn put_next<S: Store>(
-    alloc: Global,
-    store: &mut S,
-    table: &str,
-    names: &mut Names,
-    bytes: &[u8],
-) -> Result<(), LoadFault>
-    requires free { ForSome (S.files store.old) (NoneFrom table.now names.old.run names.old.session names.old.next) }
-    requires room { names.old.next + 1 < 2 ^ 128 }
-    ensures files { OnOk result (S.files store.new ≡ option_map (with_file (next_name table.now names.old) bytes.now) (S.files store.old)) }
-    ensures drawn { names.new ≡ drawn names.old }
-    ensures free { ForSome (S.files store.new) (NoneFrom table.now names.new.run names.new.session names.new.next) }
-    ensures others { PutsManifests table.now names.old (S.files store.old) (S.files store.new) }
-    ensures told { is_some (S.files store.new) ≡ is_some (S.files store.old) }
-    ensures kept { KeepsFiles (S.files store.old) (S.files store.new) }
-    ensures reads { S.reads store.new ≡ S.reads store.old }
-    ensures kind { IfErr result (λ f. (f ≡ LoadFault.Store) ⊎ (f ≡ LoadFault.Memory)) }
-    ensures unsettled { IsErrOf result LoadFault.Store → 0 < S.unsettled store.new }
-    ensures cause { HasCause LoadFault.Store LoadFault.Memory (S.faults store.old) (S.faults store.new) result }
-{
-    let name = names.metadata_name(alloc, table)?;
-    match store.put(alloc, name.as_str(), bytes) {
-        Ok(()) => Ok(()),
-        Err(fault) => Err(LoadFault::from(fault)),
-    }
-}
 
 // The spec with an id, or this one.
 fn spec_or<'a>(id: i32, specs: &'a [Spec], plain: &'a Spec) -> &'a Spec
@@ -148,9 +120,11 @@ pub(crate) fn put_manifests<S: Store>(
     let mut rest = drafts;
     while let [draft, after @ ..] = rest {
         let (bytes, row) = manifest_of(alloc, head, schema, numbers, names, draft)?;
-        match put_next(alloc, store, head.table.as_str(), names, bytes.as_slice()) {
+        let bytes = bytes.as_slice();
+        let table = head.table.as_str();
+        match put_next(alloc, store, table, names, Folder::Metadata, bytes) {
             Ok(()) => {}
-            Err(fault) => return Err(fault),
+            Err(fault) => return Err(LoadFault::from(fault)),
         }
         rows.push(row)?;
         rest = after;

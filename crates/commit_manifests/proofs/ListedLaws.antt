@@ -10,9 +10,11 @@ use Rattle.row_values.specs.declared.partition.Spec.{Spec}
 use Rattle.manifest_files.specs.declared.entry.Entry.{Entry}
 use Rattle.manifest_files.specs.declared.manifest_row.ManifestContent.{ManifestContent}
 use Rattle.manifest_files.specs.Entries.{is_live}
+use Rattle.manifest_writer.specs.Value.{is_bound}
+use Rattle.manifest_writer.specs.ListDatum.{has_bounds}
 use Rattle.commit_manifests.specs.declared.commit_numbers.CommitNumbers.{CommitNumbers}
 use Rattle.commit_manifests.specs.Rows.{files_with, rows_in, rows_with, with_number, least_from, bound_of, least_at, greatest_at, summary_at, row_of}
-use Rattle.commit_manifests.specs.Listed.{is_count, is_bound, has_bounds, can_be_listed, is_int, is_long, has_numbers}
+use Rattle.commit_manifests.specs.Listed.{is_count, can_be_listed, is_int, is_long, has_numbers}
 use Rattle.commit_manifests.proofs.Conjunction.{first, second, both}
 use Rattle.commit_manifests.proofs.NumberLaws.{one_of_both}
 

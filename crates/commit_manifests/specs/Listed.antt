@@ -3,12 +3,10 @@
 use Rattle.std.specs.Prelude.{ℕ, ◌-◌, ◌^◌, ℤ, pos, neg_ℤ, int_le, int_lt, Bool, true, false, ◌&&◌, List, Option, Some, None, IsTrue}
 use Rattle.std.specs.List.{list_all}
 use Rattle.plain_types.specs.Steps.{by_option}
-use Rattle.row_values.specs.declared.value.Value.{Value}
-use Rattle.row_values.specs.declared.value.Value.TheVariants as value
 use Rattle.row_values.specs.Rows.{is_between}
-use Rattle.kind_values.specs.declared.stats.Summary.{Summary}
 use Rattle.manifest_files.specs.declared.entry.Entry.{Entry}
 use Rattle.manifest_files.specs.declared.manifest_row.ManifestRow.{ManifestRow}
+use Rattle.manifest_writer.specs.ListDatum.{has_bounds}
 
 -- a count of so many bits
 abbrev pub is_count : ℕ → Option ℤ → Bool
@@ -17,15 +15,6 @@ is_count bits (Some number) = int_le (pos 0) number && int_lt number (pos (2 ^ b
 
 abbrev pub has_counts : ManifestRow → Bool
 has_counts row = is_count 31 row.added_files_count && (is_count 31 row.existing_files_count && (is_count 31 row.deleted_files_count && (is_count 63 row.added_rows_count && (is_count 63 row.existing_rows_count && is_count 63 row.deleted_rows_count))))
-
--- none, or bytes
-abbrev pub is_bound : Option Value → Bool
-is_bound None = true
-is_bound (Some (value.Bytes bytes)) = true
-is_bound (Some v) = false
-
-abbrev pub has_bounds : Summary → Bool
-has_bounds summary = is_bound summary.lower && is_bound summary.upper
 
 -- the length of a file, where it is told
 abbrev pub has_length : ManifestRow → Bool

@@ -1,42 +1,25 @@
 //! Partition values of live entries.
 ghost use Rattle.std.specs.Prelude.{◌≡◌, option_map};
-ghost use Rattle.row_values.specs.Rows.{is_null};
-ghost use Rattle.manifest_files.specs.Entries.{is_live};
 ghost use Rattle.commit_manifests.specs.Rows.{not_null, has_null, part_at};
 
 use manifest_files::Entry;
 use row_values::Value;
 
-pub(crate) fn is_live(entry: &Entry) -> bool
-    ensures { result ≡ is_live entry.now.status }
-{
-    entry.status < 2
-}
-
-fn is_null(value: &Value) -> bool
-    ensures { result ≡ is_null value.now }
-{
-    match value {
-        Value::Null => true,
-        _ => false,
-    }
-}
-
 fn not_null(value: &Value) -> Option<&Value>
     ensures { option_map (λ v. v.now) result ≡ not_null value.now }
 {
-    if is_null(value) { None } else { Some(value) }
+    if value.is_null() { None } else { Some(value) }
 }
 
 /// Whether a live entry has NULL at this place, or nothing.
 pub(crate) fn has_null(place: usize, entry: &Entry) -> bool
     ensures { result ≡ has_null place entry.now }
 {
-    if !is_live(entry) {
+    if !entry.is_live() {
         return false;
     }
     match entry.partition.get(place) {
-        Some(value) => is_null(value),
+        Some(value) => value.is_null(),
         None => true,
     }
 }
@@ -45,7 +28,7 @@ pub(crate) fn has_null(place: usize, entry: &Entry) -> bool
 pub(crate) fn part_at(place: usize, entry: &Entry) -> Option<&Value>
     ensures { option_map (λ v. v.now) result ≡ part_at place entry.now }
 {
-    if !is_live(entry) {
+    if !entry.is_live() {
         return None;
     }
     match entry.partition.get(place) {

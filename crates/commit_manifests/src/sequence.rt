@@ -2,14 +2,13 @@
 ghost use Rattle.std.specs.Prelude.{◌≡◌};
 ghost use Rattle.commit_manifests.specs.Rows.{with_number, least_from, least_number};
 
-use crate::parts::is_live;
 use manifest_files::Entry;
 
 /// The lesser of a number and the entry's, where that is live.
 fn with_number(least: Option<i64>, entry: &Entry) -> Option<i64>
     ensures { result ≡ with_number least entry.now }
 {
-    if !is_live(entry) {
+    if !entry.is_live() {
         return least;
     }
     match least {

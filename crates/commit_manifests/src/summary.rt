@@ -4,7 +4,7 @@ ghost use Rattle.std.specs.List.{list_any, range_with_len};
 ghost use Rattle.commit_manifests.specs.Rows.{is_outside, outermost, outermost_from, extreme_at, contains_null, bound_of, summary_at};
 
 use crate::parts::{has_null, part_at};
-use kind_values::{Summary, write_bound};
+use kind_values::{Summary, put_bound};
 use manifest_files::Entry;
 use row_values::{Bytes, List, Value};
 use std::alloc::{AllocError, Global};
@@ -67,7 +67,7 @@ fn bound_of(alloc: Global, value: Option<&Value>) -> Result<Option<Value>, Alloc
         return Ok(None);
     };
     let mut bytes = Vec::new(alloc);
-    write_bound(value, &mut bytes)?;
+    put_bound(value, &mut bytes)?;
     Ok(Some(Value::Bytes(Bytes::from_vec(bytes))))
 }
 

@@ -1,5 +1,5 @@
 -- The new data files hold the rows that were written to them.
-use Rattle.std.proofs.Common.{◌≡◌, ◌≢◌, ◌<◌, ◌≤◌, ◌+◌, ◌^◌, ◌&&◌, codes, ℕ, suc, Bool, true, false, List, [], ◌∷◌, ◌++◌, length, flat_map, append_assoc, append-nil, Option, Some, None, Result, Ok, Err, refl, sym, ap, ◌∙◌, subst, arith}
+use Rattle.std.proofs.Common.{◌≡◌, ◌<◌, ◌≤◌, ◌+◌, ◌^◌, codes, ℕ, true, List, [], ◌∷◌, ◌++◌, length, append_assoc, append-nil, Option, Some, None, Ok, refl, sym, ap, ◌∙◌, subst, arith}
 use Rattle.std.specs.FinMap as map
 use Rattle.std.specs.List.{list_all}
 use Rattle.std.specs.Str.{IsUtf8}
@@ -12,7 +12,6 @@ use Rattle.store_core.specs.Files.{Files, with_file}
 use Rattle.table_names.specs.declared.names.Names.{Names}
 use Rattle.table_names.specs.FileNames.{data_name}
 use Rattle.table_names.proofs.CallerLemmas.{data_names_apart, stands, stays}
-use Rattle.avro_container.specs.Container.{container_of}
 use Rattle.avro_rows.specs.Rows.{rows_of}
 use Rattle.row_writer.specs.Readable.{AreColumns}
 use Rattle.row_writer.specs.RowsText.{rows_container, rows_text}
@@ -29,9 +28,8 @@ use Rattle.table_names.specs.Paths.{folder_of, name_of}
 use Rattle.table_state.specs.declared.state.State.{State}
 use Rattle.change_sets.specs.declared.scanned.Decisions.{Decisions}
 use Rattle.change_sets.specs.declared.scanned.ScannedFile.{ScannedFile}
-use Rattle.cow_writer.specs.Copies.{behind, change_of, entries_from, entry_at, files_after, files_from, next_name, pieces_in, schema_of}
+use Rattle.cow_writer.specs.Copies.{change_of, entries_from, files_after, files_from, pieces_in, schema_of}
 use Rattle.change_sets.specs.Deciding.{written_of}
-use Rattle.cow_writer.specs.Pieces.{pieces_of}
 use Rattle.cow_writer.specs.Reading.{AreShort, CanBeRead, has_no_slash}
 use Rattle.cow_writer.proofs.NameLaws.{name_is}
 use Rattle.cow_writer.proofs.PieceLaws.{all_rows, are_rows, flat}

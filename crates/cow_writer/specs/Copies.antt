@@ -21,6 +21,7 @@ use Rattle.change_sets.specs.declared.change.ChangeSet.{ChangeSet}
 use Rattle.change_sets.specs.declared.scanned.Decisions.{Decisions}
 use Rattle.change_sets.specs.declared.scanned.ScannedFile.{ScannedFile}
 use Rattle.change_sets.specs.Deciding.{removed_of, written_of}
+use Rattle.change_sets.specs.Scanned.{entry_of}
 use Rattle.cow_writer.specs.Pieces.{pieces_of}
 
 -- the current schema, which all metadata has
@@ -76,9 +77,6 @@ files_from columns table names files (rows ∷ pieces) = files_from columns tabl
 -- the rows of each new file
 abbrev pub pieces_in : State → List ScannedFile → Decisions → List (List (List Value))
 pieces_in state scanned decisions = pieces_of (schema_of state.metadata).columns (written_of scanned decisions)
-
-abbrev pub entry_of : ScannedFile → Entry
-entry_of file = file.entry
 
 abbrev pub change_of : State → List ScannedFile → Decisions → Pred → Names → ChangeSet
 change_of state scanned decisions pred names = record {

@@ -8,9 +8,8 @@
 mod deciding;
 mod laws;
 mod pieces;
-mod puts;
 mod touched;
 mod writing;
 
 pub use laws::{a_copy_holds_the_rows_after, written_rows_are_of_their_columns};
-pub use writing::write_copies;
+pub use writing::{schema_of, write_copies};

@@ -7,12 +7,12 @@ ghost use Rattle.row_values.specs.Rows.{AreRows, is_row};
 ghost use Rattle.store_core.specs.Files.{KeepsFiles, with_file};
 ghost use Rattle.table_names.specs.FileNames.{NoneFrom};
 ghost use Rattle.row_writer.specs.RowsText.{rows_text};
+ghost use Rattle.change_sets.specs.Scanned.{entry_of};
 ghost use Rattle.cow_writer.specs.Copies.{
   behind,
   change_of,
   entries_from,
   entry_at,
-  entry_of,
   files_after,
   files_from,
   next_name,
@@ -24,7 +24,6 @@ ghost use Rattle.change_sets.specs.Deciding.{written_of};
 ghost use Rattle.cow_writer.specs.PutNames.{HasRoom, PutsDataFiles};
 ghost use Rattle.cow_writer.specs.Reading.{AreShort};
 
-use crate::puts::put_next;
 use crate::touched::{removed_files, written_pieces};
 use change_sets::{ChangeSet, Decisions, ScannedFile, copy_entry};
 use kind_values::Stats;
@@ -36,11 +35,11 @@ use sql_predicates::Pred;
 use std::alloc::{AllocError, Global};
 use store_core::Store;
 use table_metadata::{Metadata, schema_with};
-use table_names::{Names, folder_of};
+use table_names::{Folder, Names, folder_of, put_next};
 use table_state::{LoadFault, State};
 
 /// The current schema, or this one, without columns.
-fn schema_of<'a>(metadata: &'a Metadata, none: &'a TableSchema) -> &'a TableSchema
+pub fn schema_of<'a>(metadata: &'a Metadata, none: &'a TableSchema) -> &'a TableSchema
     requires { none.now ≡ record { id = metadata.now.current_schema; columns = [] } }
     ensures { result.now ≡ schema_of metadata.now }
 {
@@ -121,9 +120,10 @@ fn write_piece<S: Store>(
     let bytes = write_rows(alloc, schema, rows)?.into_vec();
     let bytes = bytes.as_slice();
     let entry = entry_at(alloc, &state.metadata, schema, names, rows, bytes)?;
-    match put_next(alloc, store, state.table.as_str(), names, bytes) {
+    let table = state.table.as_str();
+    match put_next(alloc, store, table, names, Folder::Data, bytes) {
         Ok(()) => Ok(entry),
-        Err(fault) => Err(fault),
+        Err(fault) => Err(LoadFault::from(fault)),
     }
 }
 

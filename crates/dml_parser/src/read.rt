@@ -1,4 +1,4 @@
-ghost use Rattle.std.specs.Prelude.{◌≡◌, ◌≢◌, [], Ok, Err, IfOk, IfErr};
+ghost use Rattle.std.specs.Prelude.{◌≡◌, [], Ok};
 ghost use Rattle.plain_types.specs.Answers.{Answers};
 ghost use Rattle.dml_parser.specs.Script.{
   after_item,
@@ -222,8 +222,7 @@ fn text_in(bytes: &[u8]) -> Result<&str, ScriptFault>
 /// Reads a script on a table of this schema.
 #[tactic(auto, unfolding(crate::specs::Script::script_of))]
 pub fn read_script(alloc: Global, bytes: &[u8], schema: &TableSchema) -> Result<Script, ScriptFault>
-    ensures ok { IfOk result (λ script. script_of bytes.now schema.now ≡ Ok script) }
-    ensures err { IfErr result (λ fault. fault ≢ ScriptFault.Memory → script_of bytes.now schema.now ≡ Err fault) }
+    ensures answers { Answers ScriptFault.Memory (λ script. script) result (script_of bytes.now schema.now) }
 {
     if bytes.len() > LONGEST_SCRIPT {
         return Err(ScriptFault::Limit(1));

@@ -9,7 +9,7 @@ use Rattle.dml_parser.specs.declared.script.Script.{Script}
 use Rattle.table_metadata.specs.Metadata.{Parts}
 use Rattle.table_metadata.specs.declared.metadata_fault.MetadataFault.TheVariants as metadata
 use Rattle.table_names.specs.Versions.{version_name, version_of}
-use Rattle.table_state.specs.Form.{has_form, is_plain_table, is_within_limits}
+use Rattle.table_state.specs.Form.{has_form, table_in_form, is_within_limits}
 use Rattle.table_state.specs.declared.load_fault.LoadFault.{LoadFault}
 use Rattle.table_state.specs.declared.load_fault.LoadFault.TheVariants as load
 use Rattle.table_state.specs.Files.{current_schema, version_at}
@@ -23,7 +23,7 @@ use Rattle.dml_program.specs.declared.status.Status.TheVariants as status
 use Rattle.dml_program.specs.Beginning.{bad_table, begun_of, opened_at, script_by}
 use Rattle.dml_program.specs.Creating.{StopsAt, file_given}
 use Rattle.dml_program.specs.Opening.{Fault, RefusesTable, table_rows}
-use Rattle.dml_program.specs.PlainTable.{plain_version}
+use Rattle.dml_program.specs.TableInForm.{version_in_form}
 use Rattle.dml_program.proofs.Openings.{of_version}
 use Rattle.dml_program.proofs.MainRows.{form_is, read_version, unfault, version_of_rows}
 
@@ -47,7 +47,7 @@ module _ (table : List ℕ) (files : Files) where
 pub opened_rows : {X : Type 0} (rows : X → List (List Value)) (p : X → Parts) (v : X → ℕ) (r : Result X Status)
     (told later : Option Files) → later ≡ told → (table : List ℕ) (version : ℕ) (found : Option ℕ) → found ≡ Some version
     → ForSome told (λ files. found ≡ version_of table files)
-    → IfOk r (λ x. ForSome later (λ files. plain_version table version files ≡ Ok (rows x)))
+    → IfOk r (λ x. ForSome later (λ files. version_in_form table version files ≡ Ok (rows x)))
     → IfOk r (λ x. ForSome later (λ files. version_at table version files ≡ Ok (p x))) → IfOk r (λ x. v x ≡ version)
     → IfOk r (λ x. ForSome told (λ files. opened_at table files ≡ Ok (v x, p x)))
 opened_rows rows p v (Err s) told later same table version found some newest readable held at = tt
@@ -114,14 +114,14 @@ module _ (table : List ℕ) (files : Files) where
       let behind = opened_behind table (λ v. version_at table v files) version p (table_rows table files) (version_of table files) opened in
       let found = version_of_rows table files behind.0 behind.1 in
       let same : found.0 ≡ version = one_version found.0 version (version_of table files) found.1 behind.2 in
-      let plain : plain_version table version files ≡ Ok behind.0 = subst (λ (v : ℕ). plain_version table v files ≡ Ok behind.0) same found.2 in
+      let plain : version_in_form table version files ≡ Ok behind.0 = subst (λ (v : ℕ). version_in_form table v files ≡ Ok behind.0) same found.2 in
       let form = form_is table version files behind.0 plain in
       record {
         newest = behind.2;
         held = p;
         read = behind.3;
         by_schema = schema_is p schema by_id;
-        form = second_true (is_within_limits version p) (is_plain_table p) (subst (λ (q : Parts). has_form version q ≡ true) (one_parts form.0 p (version_at table version files) form.1 behind.3) form.2);
+        form = second_true (is_within_limits version p) (table_in_form p) (subst (λ (q : Parts). has_form version q ≡ true) (one_parts form.0 p (version_at table version files) form.1 behind.3) form.2);
         rows = behind.0;
         told = read_version table version files behind.0 plain;
       }

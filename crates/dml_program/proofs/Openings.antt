@@ -8,7 +8,7 @@ use Rattle.dml_program.specs.declared.status.TableKind.TheVariants.{NoVersion, L
 use Rattle.dml_program.specs.declared.status.Status.{Status}
 use Rattle.dml_program.specs.declared.status.Status.TheVariants as status
 use Rattle.dml_program.specs.Opening.{Fault, Refuses, RefusesTable, table_rows}
-use Rattle.dml_program.specs.PlainTable.{plain_version}
+use Rattle.dml_program.specs.TableInForm.{version_in_form}
 
 abbrev as_fault : List ℕ → Fault
 as_fault path = (Later, path)
@@ -27,12 +27,12 @@ refused_table wanted (status.StateUnknown session number) r = r
 
 -- the rows of a table are those of its current version
 pub of_version : (table : List ℕ) (version : ℕ) (files : Files) → Some version ≡ version_of table files
-    → table_rows table files ≡ fault_as as_fault (plain_version table version files)
-of_version table version files is = unfold table_rows in ap (λ v. by_option v (λ n. fault_as as_fault (plain_version table n files)) (Err (NoVersion, table))) (sym is)
+    → table_rows table files ≡ fault_as as_fault (version_in_form table version files)
+of_version table version files is = unfold table_rows in ap (λ v. by_option v (λ n. fault_as as_fault (version_in_form table n files)) (Err (NoVersion, table))) (sym is)
 
 pub refused_rows : {X : Type 0} (r : Result X Status) (told later : Option Files) → later ≡ told
     → (table : List ℕ) (version : ℕ) (found : Option ℕ) → found ≡ Some version
     → ForSome told (λ files. found ≡ version_of table files)
-    → IfErr r (λ s. ForSome later (λ files. Refuses (plain_version table version files) s)) → IfErr r (λ s. ForSome told (λ files. RefusesTable (table_rows table files) s))
+    → IfErr r (λ s. ForSome later (λ files. Refuses (version_in_form table version files) s)) → IfErr r (λ s. ForSome told (λ files. RefusesTable (table_rows table files) s))
 refused_rows (Ok x) told later same table version found some is refused = tt
-refused_rows (Err s) told later same table version found some is refused = λ files e. subst (λ rows. RefusesTable rows s) (sym (of_version table version files (sym some ∙ is files e))) (refused_table (plain_version table version files) s (refused files (same ∙ e)))
+refused_rows (Err s) told later same table version found some is refused = λ files e. subst (λ rows. RefusesTable rows s) (sym (of_version table version files (sym some ∙ is files e))) (refused_table (version_in_form table version files) s (refused files (same ∙ e)))

@@ -22,7 +22,7 @@ use Rattle.schedule_runner.specs.Scripts.{name_in, statements_in}
 use Rattle.dml_program.specs.declared.begin.Begun.{Begun}
 use Rattle.dml_program.specs.declared.status.Status.{Status}
 use Rattle.dml_program.specs.declared.status.Status.TheVariants as status
-use Rattle.dml_program.specs.Answers.{Answer, Carries, IsFault, LeavesAnswered, RunsNothing, Writes, refused, report_lines}
+use Rattle.dml_program.specs.Answers.{ProgramAnswer, Carries, IsFault, LeavesAnswered, RunsNothing, Writes, refused, report_lines}
 use Rattle.dml_program.specs.Beginning.{begun_of}
 use Rattle.dml_program.specs.Causes.{HasInputCause, HasStoreCause, IsSettled, IsSettledBy, IsUnbegun}
 use Rattle.dml_program.specs.Creating.{StopsAt}
@@ -344,7 +344,7 @@ pub swap_either : {P Q : Type 0} → P ⊎ Q → Q ⊎ P
 swap_either (inl p) = inr p
 swap_either (inr q) = inl q
 
-pub memory_report : (a : Answer) → report_lines a status.Memory ≡ []
+pub memory_report : (a : ProgramAnswer) → report_lines a status.Memory ≡ []
 memory_report a = refl
 
 pub nothing_writes : (old : Option (List ℕ)) (before now : ℕ) {lines : List ℕ} → lines ≡ [] → Writes lines old old before now

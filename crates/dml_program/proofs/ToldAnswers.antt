@@ -4,7 +4,7 @@ use Rattle.std.specs.Option.{ForSome}
 use Rattle.std.proofs.lemmas.Result.{IfOk-weaker, IfErr-weaker}
 use Rattle.store_core.specs.Files.{Files}
 use Rattle.command_line.specs.Words.{Wanted, rows, create, run}
-use Rattle.dml_program.specs.Answers.{AllTold, Answer, refused, Carries, OnlyReads, Prints, ToldOf, create_answer, rows_answer}
+use Rattle.dml_program.specs.Answers.{AllTold, ProgramAnswer, refused, Carries, OnlyReads, Prints, ToldOf, create_answer, rows_answer}
 use Rattle.dml_program.specs.Beginning.{begun_of}
 use Rattle.dml_program.specs.Creating.{first_version_of}
 use Rattle.dml_program.specs.Opening.{table_rows}
@@ -13,10 +13,10 @@ use Rattle.dml_program.specs.declared.status.Status.TheVariants as status
 use Rattle.dml_program.proofs.Reports.{lifted}
 
 -- the answer to a table's rows, and to a table that is made
-abbrev pub answer_to_rows : List ℕ → Files → Answer
+abbrev pub answer_to_rows : List ℕ → Files → ProgramAnswer
 answer_to_rows table f = rows_answer f (table_rows table f)
 
-abbrev pub answer_to_create : List ℕ → List ℕ → Files → Files → ℤ → Answer
+abbrev pub answer_to_create : List ℕ → List ℕ → Files → Files → ℤ → ProgramAnswer
 answer_to_create table schema f g n = create_answer table f (first_version_of table schema f g n)
 
 -- what holds of each fault holds of a result's
@@ -29,36 +29,36 @@ pub only_reads_by : {X : Type 0} (c : Option Wanted) (table schema : List ℕ) �
 only_reads_by c table schema is reads = absurd (subst OnlyReads is reads)
 
 module _ (c : Option Wanted) (files given : Option Files) (now : Option ℤ) where
-  pub told_usage : (holds : Files → Answer → Type 0) → c ≡ None → ForSome files (λ f. holds f (refused status.Usage)) → ToldOf c files given now holds
+  pub told_usage : (holds : Files → ProgramAnswer → Type 0) → c ≡ None → ForSome files (λ f. holds f (refused status.Usage)) → ToldOf c files given now holds
   told_usage holds is each = subst (λ c. ToldOf c files given now holds) (sym is) each
 
-  pub told_rows : (holds : Files → Answer → Type 0) (table : List ℕ) → c ≡ Some (rows table)
+  pub told_rows : (holds : Files → ProgramAnswer → Type 0) (table : List ℕ) → c ≡ Some (rows table)
       → ForSome files (λ f. holds f (answer_to_rows table f)) → ToldOf c files given now holds
   told_rows holds table is each = subst (λ c. ToldOf c files given now holds) (sym is) each
 
-  pub told_create : (holds : Files → Answer → Type 0) (table schema : List ℕ) → c ≡ Some (create table schema)
+  pub told_create : (holds : Files → ProgramAnswer → Type 0) (table schema : List ℕ) → c ≡ Some (create table schema)
       → AllTold files given now (λ f g n. holds f (answer_to_create table schema f g n)) → ToldOf c files given now holds
   told_create holds table schema is each = subst (λ c. ToldOf c files given now holds) (sym is) each
 
   -- what holds of every answer
-  each_of : (holds : Files → Answer → Type 0) (d : Option Wanted) → ((f : Files) → files ≡ Some f → (a : Answer) → holds f a) → ToldOf d files given now holds
+  each_of : (holds : Files → ProgramAnswer → Type 0) (d : Option Wanted) → ((f : Files) → files ≡ Some f → (a : ProgramAnswer) → holds f a) → ToldOf d files given now holds
   each_of holds None each = λ f told. each f told (refused status.Usage)
   each_of holds (Some (rows table)) each = λ f told. each f told (answer_to_rows table f)
   each_of holds (Some (create table schema)) each = λ f told g inputs n time. each f told (answer_to_create table schema f g n)
   each_of holds (Some (run table script)) each = λ f told g inputs. each_err (begun_of table script f g) (λ s. holds f (refused s)) (λ s. each f told (refused s))
 
-  pub told_anyway : (holds : Files → Answer → Type 0) → ((f : Files) → files ≡ Some f → (a : Answer) → holds f a) → ToldOf c files given now holds
+  pub told_anyway : (holds : Files → ProgramAnswer → Type 0) → ((f : Files) → files ≡ Some f → (a : ProgramAnswer) → holds f a) → ToldOf c files given now holds
   told_anyway holds each = each_of holds c each
 
   -- what follows from what holds
-  map_of : (holds other : Files → Answer → Type 0) (d : Option Wanted) → ((f : Files) (a : Answer) → holds f a → other f a)
+  map_of : (holds other : Files → ProgramAnswer → Type 0) (d : Option Wanted) → ((f : Files) (a : ProgramAnswer) → holds f a → other f a)
       → ToldOf d files given now holds → ToldOf d files given now other
   map_of holds other None each told = λ f is. each f (refused status.Usage) (told f is)
   map_of holds other (Some (rows table)) each told = λ f is. each f (answer_to_rows table f) (told f is)
   map_of holds other (Some (create table schema)) each told = λ f is g inputs n time. each f (answer_to_create table schema f g n) (told f is g inputs n time)
   map_of holds other (Some (run table script)) each told = λ f is g inputs. IfErr-weaker (begun_of table script f g) _ _ (λ s held. each f (refused s) held) (told f is g inputs)
 
-  pub told_map : (holds other : Files → Answer → Type 0) → ((f : Files) (a : Answer) → holds f a → other f a)
+  pub told_map : (holds other : Files → ProgramAnswer → Type 0) → ((f : Files) (a : ProgramAnswer) → holds f a → other f a)
       → ToldOf c files given now holds → ToldOf c files given now other
   told_map holds other each told = map_of holds other c each told
 

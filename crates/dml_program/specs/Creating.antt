@@ -17,7 +17,7 @@ use Rattle.dml_program.specs.declared.status.TableKind.TheVariants.{Exists, Late
 use Rattle.dml_program.specs.declared.status.ScriptKind.TheVariants as script
 use Rattle.dml_program.specs.declared.status.Status.{Status}
 use Rattle.dml_program.specs.declared.status.Status.TheVariants as status
-use Rattle.table_state.specs.Form.{is_plain_column, is_unpartitioned, is_plain_writing}
+use Rattle.table_state.specs.Form.{column_in_form, is_unpartitioned, writing_in_form}
 
 -- the bytes of the schema file, where it is not too long
 abbrev pub bytes_given : List ℕ → InputAnswer → Result (Option (List ℕ)) Status
@@ -46,16 +46,16 @@ bad_file definition.Schema = status.ScriptBad 1 script.Schema
 bad_file definition.Memory = status.Memory
 
 -- The tables that are made so far are those that are read so far.
-abbrev pub is_plain : Asked → Bool
-is_plain asked = list_all is_plain_column asked.schema.columns && (is_unpartitioned asked.spec && is_plain_writing asked.properties)
+abbrev pub in_form : Asked → Bool
+in_form asked = list_all column_in_form asked.schema.columns && (is_unpartitioned asked.spec && writing_in_form asked.properties)
 
-abbrev pub if_plain : Asked → Result Asked Status
-if_plain asked = if is_plain asked then Ok asked else Err (status.ScriptBad 1 script.Later)
+abbrev pub if_in_form : Asked → Result Asked Status
+if_in_form asked = if in_form asked then Ok asked else Err (status.ScriptBad 1 script.Later)
 
 -- what the file asks for
 unfoldable pub asked_by : Option (List ℕ) → Result Asked Status
 asked_by None = Err (status.ScriptBad 1 script.Limit)
-asked_by (Some bytes) = fault_as bad_file (definition_of bytes) >>= if_plain
+asked_by (Some bytes) = fault_as bad_file (definition_of bytes) >>= if_in_form
 
 -- the bytes of the first version
 unfoldable pub first_version_of : List ℕ → List ℕ → Files → Files → ℤ → Result (List ℕ) Status

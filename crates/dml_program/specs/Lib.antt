@@ -3,6 +3,6 @@ pub mod Beginning
 pub mod Causes
 pub mod Creating
 pub mod Opening
-pub mod PlainTable
+pub mod TableInForm
 pub mod ScriptRuns
 pub mod Statuses

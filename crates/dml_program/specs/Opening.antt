@@ -10,7 +10,7 @@ use Rattle.dml_program.specs.declared.status.TableKind.{TableKind}
 use Rattle.dml_program.specs.declared.status.TableKind.TheVariants.{NoVersion, Later}
 use Rattle.dml_program.specs.declared.status.Status.{Status}
 use Rattle.dml_program.specs.declared.status.Status.TheVariants as status
-use Rattle.dml_program.specs.PlainTable.{plain_version}
+use Rattle.dml_program.specs.TableInForm.{version_in_form}
 
 -- what is wrong, and where
 abbrev pub Fault : Type 0
@@ -18,7 +18,7 @@ Fault = TableKind × List ℕ
 
 -- the rows of `main` at the current version
 unfoldable pub table_rows : List ℕ → Files → Result (List (List Value)) Fault
-table_rows table files = by_option (version_of table files) (λ version. fault_as (λ path. (Later, path)) (plain_version table version files)) (Err (NoVersion, table))
+table_rows table files = by_option (version_of table files) (λ version. fault_as (λ path. (Later, path)) (version_in_form table version files)) (Err (NoVersion, table))
 
 -- the status of a call that stopped where this is wanted: it names the path of the first file out of form, unless the
 -- store failed or memory ran out

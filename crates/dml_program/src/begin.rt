@@ -1,5 +1,5 @@
 // What a run of a script begins with.
-ghost use Rattle.std.specs.Prelude.{◌≡◌, ◌⊎◌, None, Ok, Some, IfOk, IfErr, OnOk, option_copied};
+ghost use Rattle.std.specs.Prelude.{◌≡◌, ◌⊎◌, None, Ok, Some, IfOk, IfErr, OnOk};
 ghost use Rattle.std.specs.Option.{ForSome};
 ghost use Rattle.plain_types.specs.Causes.{Rose};
 ghost use Rattle.table_names.specs.Versions.{version_name};
@@ -18,7 +18,7 @@ use plain_types::{List, Text};
 use row_values::{Column, TableSchema};
 use std::alloc::{AllocError, Global};
 use store_core::{Blob, Inputs, Store};
-use table_metadata::{Metadata, schema_with};
+use table_metadata::current_schema;
 use table_names::version_name;
 
 /// What a run begins with.
@@ -91,12 +91,6 @@ fn schema_of(alloc: Global, table: &str, opened: &Opened) -> Result<TableSchema,
         Some(schema) => Ok(copy_schema(alloc, schema)?),
         None => Err(no_schema(alloc, table, opened.version)),
     }
-}
-
-fn current_schema(metadata: &Metadata) -> Option<&TableSchema>
-    ensures { option_copied result ≡ schema_with metadata.now.current_schema metadata.now.schemas }
-{
-    schema_with(metadata.current_schema, metadata.schemas.as_slice())
 }
 
 fn copy_schema(alloc: Global, schema: &TableSchema) -> Result<TableSchema, AllocError>

@@ -8,7 +8,7 @@ ghost use Rattle.table_names.specs.Versions.{version_of};
 ghost use Rattle.dml_program.specs.Answers.{AllTold, Carries, LeavesAnswered, Prints, create_answer, so_far};
 ghost use Rattle.dml_program.specs.Causes.{HasInputCause, HasStoreCause, IsFormStop, IsSettled, IsStop, IsUnbegun};
 ghost use Rattle.dml_program.specs.Opening.{IsRefusal};
-ghost use Rattle.dml_program.specs.Creating.{StopsAt, asked_by, bad_file, file_given, first_version_of, has_no_version, if_plain, is_not_compressed, is_plain, may_be_made};
+ghost use Rattle.dml_program.specs.Creating.{StopsAt, asked_by, bad_file, file_given, first_version_of, has_no_version, if_in_form, is_not_compressed, in_form, may_be_made};
 
 use crate::report;
 use crate::status::{ScriptKind, Status, TableKind};
@@ -18,7 +18,7 @@ use std::alloc::Global;
 use store_core::{Blob, Clock, InputAnswer, Inputs, IoFault, Store};
 use table_definition::{Definition, DefinitionFault, first_text, read_definition};
 use table_names::{compressed_version, current_version, version_name};
-use table_state::{are_plain_columns, is_plain_writing};
+use table_state::{columns_in_form, writing_in_form};
 
 /// The most bytes of a script or a schema file.
 const MOST_BYTES: u64 = 1 << 20;
@@ -179,7 +179,7 @@ fn read_asked(alloc: Global, bytes: Option<Blob>) -> Result<Definition, Status>
         Ok(definition) => definition,
         Err(fault) => return Err(bad_file(fault)),
     };
-    if is_plain(&definition) {
+    if in_form(&definition) {
         Ok(definition)
     } else {
         Err(bad(ScriptKind::Later))
@@ -202,12 +202,12 @@ fn bad(kind: ScriptKind) -> Status
     Status::ScriptBad { line: 1, kind }
 }
 
-fn is_plain(definition: &Definition) -> bool
-    ensures { result ≡ is_plain (asked definition.now) }
+fn in_form(definition: &Definition) -> bool
+    ensures { result ≡ in_form (asked definition.now) }
 {
-    are_plain_columns(definition.schema.columns.as_slice())
+    columns_in_form(definition.schema.columns.as_slice())
         && definition.spec.fields.len() == 0
-        && is_plain_writing(&definition.properties)
+        && writing_in_form(&definition.properties)
 }
 
 // Makes the first version of a table that has none.

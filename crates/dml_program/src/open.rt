@@ -12,17 +12,17 @@ ghost use Rattle.table_state.specs.Live.{is_data, is_live};
 ghost use Rattle.table_state.specs.Form.{is_data_manifest};
 ghost use Rattle.dml_program.specs.Beginning.{opened_at};
 ghost use Rattle.dml_program.specs.Opening.{IsRefusal, Refuses, RefusesTable, load_status, table_rows};
-ghost use Rattle.dml_program.specs.PlainTable.{
+ghost use Rattle.dml_program.specs.TableInForm.{
   if_form,
-  plain_entries,
-  plain_file,
-  plain_list,
-  plain_main,
-  plain_manifest,
-  plain_metadata,
-  plain_rows,
-  plain_snapshot,
-  plain_version,
+  entries_in_form,
+  file_in_form,
+  list_in_form,
+  main_in_form,
+  manifest_in_form,
+  metadata_in_form,
+  rows_in_form,
+  snapshot_in_form,
+  version_in_form,
 };
 
 use crate::status::{Status, TableKind};
@@ -59,17 +59,17 @@ pub(crate) fn later(path: Text) -> Status
     }
 }
 
-#[tactic(auto, unfolding(crate::specs::PlainTable::plain_list))]
-fn plain_list<S: Store>(
+#[tactic(auto, unfolding(crate::specs::TableInForm::list_in_form))]
+fn list_in_form<S: Store>(
     alloc: Global,
     store: &mut S,
     table: &str,
     metadata: &Metadata,
     path: &str,
 ) -> Result<List<ManifestRow>, Status>
-    ensures found { IfOk result (λ rows. ForSome (S.files store.old) (λ files. plain_list table.now (parts metadata.now) path.now files ≡ Ok rows)) }
+    ensures found { IfOk result (λ rows. ForSome (S.files store.old) (λ files. list_in_form table.now (parts metadata.now) path.now files ≡ Ok rows)) }
     ensures refused { IfErr result (λ status. ForSome (S.files store.old)
-        (λ files. Refuses (plain_list table.now (parts metadata.now) path.now files) status)) }
+        (λ files. Refuses (list_in_form table.now (parts metadata.now) path.now files) status)) }
     ensures kind { IfErr result IsRefusal }
     ensures store_failed { IsErrOf result Status.StoreFailed → Rose (S.faults store.old) (S.faults store.new) × (0 < S.unsettled store.new) }
     ensures quiet { OnOk result (S.faults store.new ≡ S.faults store.old) }
@@ -95,8 +95,8 @@ fn data_manifests(path: Text, rows: List<ManifestRow>) -> Result<List<ManifestRo
 }
 
 // The live entries of the manifest that a row names.
-#[tactic(auto, unfolding(crate::specs::PlainTable::plain_manifest))]
-fn plain_manifest<S: Store>(
+#[tactic(auto, unfolding(crate::specs::TableInForm::manifest_in_form))]
+fn manifest_in_form<S: Store>(
     alloc: Global,
     store: &mut S,
     table: &str,
@@ -104,9 +104,9 @@ fn plain_manifest<S: Store>(
     row: &ManifestRow,
 ) -> Result<Vec<Entry>, Status>
     ensures found { IfOk result (λ entries. ForSome (S.files store.old)
-        (λ files. plain_manifest table.now (parts metadata.now) row.now files ≡ Ok entries.items)) }
+        (λ files. manifest_in_form table.now (parts metadata.now) row.now files ≡ Ok entries.items)) }
     ensures refused { IfErr result (λ status. ForSome (S.files store.old)
-        (λ files. Refuses (plain_manifest table.now (parts metadata.now) row.now files) status)) }
+        (λ files. Refuses (manifest_in_form table.now (parts metadata.now) row.now files) status)) }
     ensures kind { IfErr result IsRefusal }
     ensures store_failed { IsErrOf result Status.StoreFailed → Rose (S.faults store.old) (S.faults store.new) × (0 < S.unsettled store.new) }
     ensures quiet { OnOk result (S.faults store.new ≡ S.faults store.old) }
@@ -135,13 +135,13 @@ fn live_entries(entries: List<Entry>) -> Vec<Entry>
     ensures { result.items ≡ filter is_live entries }
 {
     let mut live = entries.into_vec();
-    live.retain(|entry| entry.status < 2);
+    live.retain(|entry| entry.is_live());
     live
 }
 
 // The live entries of the manifests.
-#[tactic(auto, unfolding(crate::specs::PlainTable::plain_entries))]
-fn plain_entries<S: Store>(
+#[tactic(auto, unfolding(crate::specs::TableInForm::entries_in_form))]
+fn entries_in_form<S: Store>(
     alloc: Global,
     store: &mut S,
     table: &str,
@@ -149,9 +149,9 @@ fn plain_entries<S: Store>(
     rows: &[ManifestRow],
 ) -> Result<Vec<Entry>, Status>
     ensures found { IfOk result (λ entries. ForSome (S.files store.old)
-        (λ files. plain_entries table.now (parts metadata.now) [] rows.now files ≡ Ok entries.items)) }
+        (λ files. entries_in_form table.now (parts metadata.now) [] rows.now files ≡ Ok entries.items)) }
     ensures refused { IfErr result (λ status. ForSome (S.files store.old)
-        (λ files. Refuses (plain_entries table.now (parts metadata.now) [] rows.now files) status)) }
+        (λ files. Refuses (entries_in_form table.now (parts metadata.now) [] rows.now files) status)) }
     ensures kind { IfErr result IsRefusal }
     ensures store_failed { IsErrOf result Status.StoreFailed → Rose (S.faults store.old) (S.faults store.new) × (0 < S.unsettled store.new) }
     ensures quiet { OnOk result (S.faults store.new ≡ S.faults store.old) }
@@ -160,7 +160,7 @@ fn plain_entries<S: Store>(
     let mut entries = Vec::new(alloc);
     let mut rest = rows;
     while let [row, after @ ..] = rest {
-        let mut more = plain_manifest(alloc, store, table, metadata, row)?;
+        let mut more = manifest_in_form(alloc, store, table, metadata, row)?;
         entries.append(&mut more)?;
         rest = after;
     }
@@ -168,16 +168,16 @@ fn plain_entries<S: Store>(
 }
 
 // The rows of a data file.
-fn plain_file<S: Store>(
+fn file_in_form<S: Store>(
     alloc: Global,
     store: &mut S,
     table: &str,
     metadata: &Metadata,
     path: &str,
 ) -> Result<Vec<Row>, Status>
-    ensures found { IfOk result (λ rows. ForSome (S.files store.old) (λ files. plain_file table.now (parts metadata.now) path.now files ≡ Ok rows.items)) }
+    ensures found { IfOk result (λ rows. ForSome (S.files store.old) (λ files. file_in_form table.now (parts metadata.now) path.now files ≡ Ok rows.items)) }
     ensures refused { IfErr result (λ status. ForSome (S.files store.old)
-        (λ files. Refuses (plain_file table.now (parts metadata.now) path.now files) status)) }
+        (λ files. Refuses (file_in_form table.now (parts metadata.now) path.now files) status)) }
     ensures kind { IfErr result IsRefusal }
     ensures store_failed { IsErrOf result Status.StoreFailed → Rose (S.faults store.old) (S.faults store.new) × (0 < S.unsettled store.new) }
     ensures quiet { OnOk result (S.faults store.new ≡ S.faults store.old) }
@@ -191,8 +191,8 @@ fn plain_file<S: Store>(
 }
 
 // The rows of the data files.
-#[tactic(auto, unfolding(crate::specs::PlainTable::plain_rows))]
-fn plain_rows<S: Store>(
+#[tactic(auto, unfolding(crate::specs::TableInForm::rows_in_form))]
+fn rows_in_form<S: Store>(
     alloc: Global,
     store: &mut S,
     table: &str,
@@ -200,9 +200,9 @@ fn plain_rows<S: Store>(
     entries: &[Entry],
 ) -> Result<Vec<Row>, Status>
     ensures found { IfOk result (λ rows. ForSome (S.files store.old)
-        (λ files. plain_rows table.now (parts metadata.now) [] entries.now files ≡ Ok rows.items)) }
+        (λ files. rows_in_form table.now (parts metadata.now) [] entries.now files ≡ Ok rows.items)) }
     ensures refused { IfErr result (λ status. ForSome (S.files store.old)
-        (λ files. Refuses (plain_rows table.now (parts metadata.now) [] entries.now files) status)) }
+        (λ files. Refuses (rows_in_form table.now (parts metadata.now) [] entries.now files) status)) }
     ensures kind { IfErr result IsRefusal }
     ensures store_failed { IsErrOf result Status.StoreFailed → Rose (S.faults store.old) (S.faults store.new) × (0 < S.unsettled store.new) }
     ensures quiet { OnOk result (S.faults store.new ≡ S.faults store.old) }
@@ -211,7 +211,7 @@ fn plain_rows<S: Store>(
     let mut rows = Vec::new(alloc);
     let mut rest = entries;
     while let [entry, after @ ..] = rest {
-        let mut more = plain_file(alloc, store, table, metadata, entry.path.as_str())?;
+        let mut more = file_in_form(alloc, store, table, metadata, entry.path.as_str())?;
         rows.append(&mut more)?;
         rest = after;
     }
@@ -219,8 +219,8 @@ fn plain_rows<S: Store>(
 }
 
 // The rows of a snapshot.
-#[tactic(auto, unfolding(crate::specs::PlainTable::plain_snapshot))]
-fn plain_snapshot<S: Store>(
+#[tactic(auto, unfolding(crate::specs::TableInForm::snapshot_in_form))]
+fn snapshot_in_form<S: Store>(
     alloc: Global,
     store: &mut S,
     table: &str,
@@ -228,31 +228,31 @@ fn plain_snapshot<S: Store>(
     snapshot: &Snapshot,
 ) -> Result<Vec<Row>, Status>
     ensures found { IfOk result (λ rows. ForSome (S.files store.old)
-        (λ files. plain_snapshot table.now (parts metadata.now) snapshot.now files ≡ Ok rows.items)) }
+        (λ files. snapshot_in_form table.now (parts metadata.now) snapshot.now files ≡ Ok rows.items)) }
     ensures refused { IfErr result (λ status. ForSome (S.files store.old)
-        (λ files. Refuses (plain_snapshot table.now (parts metadata.now) snapshot.now files) status)) }
+        (λ files. Refuses (snapshot_in_form table.now (parts metadata.now) snapshot.now files) status)) }
     ensures kind { IfErr result IsRefusal }
     ensures store_failed { IsErrOf result Status.StoreFailed → Rose (S.faults store.old) (S.faults store.new) × (0 < S.unsettled store.new) }
     ensures quiet { OnOk result (S.faults store.new ≡ S.faults store.old) }
     ensures files { S.files store.new ≡ S.files store.old }
 {
-    let rows = plain_list(alloc, store, table, metadata, snapshot.list.as_str())?;
-    let entries = plain_entries(alloc, store, table, metadata, rows.as_slice())?;
-    plain_rows(alloc, store, table, metadata, entries.as_slice())
+    let rows = list_in_form(alloc, store, table, metadata, snapshot.list.as_str())?;
+    let entries = entries_in_form(alloc, store, table, metadata, rows.as_slice())?;
+    rows_in_form(alloc, store, table, metadata, entries.as_slice())
 }
 
 // The rows of `main`, of a version whose metadata has this name.
-#[tactic(auto, unfolding(crate::specs::PlainTable::plain_main))]
-fn plain_main<S: Store>(
+#[tactic(auto, unfolding(crate::specs::TableInForm::main_in_form))]
+fn main_in_form<S: Store>(
     alloc: Global,
     store: &mut S,
     table: &str,
     metadata: &Metadata,
     name: &str,
 ) -> Result<Vec<Row>, Status>
-    ensures found { IfOk result (λ rows. ForSome (S.files store.old) (λ files. plain_main name.now table.now (parts metadata.now) files ≡ Ok rows.items)) }
+    ensures found { IfOk result (λ rows. ForSome (S.files store.old) (λ files. main_in_form name.now table.now (parts metadata.now) files ≡ Ok rows.items)) }
     ensures refused { IfErr result (λ status. ForSome (S.files store.old)
-        (λ files. Refuses (plain_main name.now table.now (parts metadata.now) files) status)) }
+        (λ files. Refuses (main_in_form name.now table.now (parts metadata.now) files) status)) }
     ensures kind { IfErr result IsRefusal }
     ensures store_failed { IsErrOf result Status.StoreFailed → Rose (S.faults store.old) (S.faults store.new) × (0 < S.unsettled store.new) }
     ensures quiet { OnOk result (S.faults store.new ≡ S.faults store.old) }
@@ -262,16 +262,21 @@ fn plain_main<S: Store>(
         return Ok(Vec::new(alloc));
     };
     match snapshot_with(id, metadata.snapshots.as_slice()) {
-        Some(snapshot) => plain_snapshot(alloc, store, table, metadata, snapshot),
+        Some(snapshot) => snapshot_in_form(alloc, store, table, metadata, snapshot),
         None => Err(later(Text::copy_of(alloc, name)?)),
     }
 }
 
 // The metadata that the bytes of a version are, which has this name.
-#[tactic(auto, unfolding(crate::specs::PlainTable::plain_metadata))]
-fn plain_metadata(alloc: Global, name: &str, version: u32, bytes: &[u8]) -> Result<Metadata, Status>
-    ensures found { IfOk result (λ m. plain_metadata name.now version bytes.now ≡ Ok (parts m)) }
-    ensures refused { IfErr result (Refuses (plain_metadata name.now version bytes.now)) }
+#[tactic(auto, unfolding(crate::specs::TableInForm::metadata_in_form))]
+fn metadata_in_form(
+    alloc: Global,
+    name: &str,
+    version: u32,
+    bytes: &[u8],
+) -> Result<Metadata, Status>
+    ensures found { IfOk result (λ m. metadata_in_form name.now version bytes.now ≡ Ok (parts m)) }
+    ensures refused { IfErr result (Refuses (metadata_in_form name.now version bytes.now)) }
     ensures kind { IfErr result IsRefusal }
     ensures inside { IsErrOf result Status.StoreFailed → ⊥ }
 {
@@ -312,17 +317,17 @@ pub(crate) struct Opened {
     pub rows: Vec<Row>,
 }
 
-#[tactic(auto, unfolding(crate::specs::PlainTable::plain_version))]
-fn plain_version<S: Store>(
+#[tactic(auto, unfolding(crate::specs::TableInForm::version_in_form))]
+fn version_in_form<S: Store>(
     alloc: Global,
     store: &mut S,
     table: &str,
     version: u32,
 ) -> Result<Opened, Status>
-    ensures found { IfOk result (λ opened. ForSome (S.files store.old) (λ files. plain_version table.now version files ≡ Ok opened.rows.items)) }
+    ensures found { IfOk result (λ opened. ForSome (S.files store.old) (λ files. version_in_form table.now version files ≡ Ok opened.rows.items)) }
     ensures metadata { IfOk result (λ opened. ForSome (S.files store.old) (λ files. version_at table.now version files ≡ Ok (parts opened.metadata))) }
     ensures version { IfOk result (λ opened. opened.version ≡ version) }
-    ensures refused { IfErr result (λ status. ForSome (S.files store.old) (λ files. Refuses (plain_version table.now version files) status)) }
+    ensures refused { IfErr result (λ status. ForSome (S.files store.old) (λ files. Refuses (version_in_form table.now version files) status)) }
     ensures kind { IfErr result IsRefusal }
     ensures store_failed { IsErrOf result Status.StoreFailed → Rose (S.faults store.old) (S.faults store.new) × (0 < S.unsettled store.new) }
     ensures quiet { OnOk result (S.faults store.new ≡ S.faults store.old) }
@@ -330,8 +335,8 @@ fn plain_version<S: Store>(
 {
     let name = version_name(alloc, table, version)?;
     let bytes = read_name(alloc, store, name.as_str())?;
-    let metadata = plain_metadata(alloc, name.as_str(), version, bytes.as_slice())?;
-    let rows = plain_main(alloc, store, table, &metadata, name.as_str())?;
+    let metadata = metadata_in_form(alloc, name.as_str(), version, bytes.as_slice())?;
+    let rows = main_in_form(alloc, store, table, &metadata, name.as_str())?;
     Ok(Opened {
         version,
         metadata,
@@ -381,7 +386,7 @@ pub(crate) fn open_table<S: Store>(
     ensures files { S.files store.new ≡ S.files store.old }
 {
     match current_version(alloc, store, table) {
-        Ok(Some(version)) => plain_version(alloc, store, table, version),
+        Ok(Some(version)) => version_in_form(alloc, store, table, version),
         Ok(None) => Err(Status::TableBad {
             kind: TableKind::NoVersion,
             path: Text::copy_of(alloc, table)?,

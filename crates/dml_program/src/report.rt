@@ -5,7 +5,7 @@ ghost use Rattle.dml_program.specs.Statuses.{created_lines, fault_lines, kind_te
 
 use crate::status::{ScriptKind, Status, TableKind};
 use row_values::Row;
-use run_report::{push_line, push_rows};
+use run_report::{put_line, put_rows};
 use std::alloc::{AllocError, Global};
 
 /// What a status writes of itself.
@@ -96,7 +96,7 @@ pub(crate) fn row_lines(alloc: Global, rows: &[Row]) -> Result<Vec<u8>, AllocErr
     ensures { IfOk result (λ lines. lines.items ≡ row_lines rows.now) }
 {
     let mut lines = Vec::new(alloc);
-    push_rows(alloc, rows, &mut lines)?;
+    put_rows(alloc, rows, &mut lines)?;
     Ok(lines)
 }
 
@@ -104,6 +104,6 @@ fn line(alloc: Global, text: &str) -> Result<Vec<u8>, AllocError>
     ensures { IfOk result (λ bytes. bytes.items ≡ line text.now) }
 {
     let mut bytes = Vec::new(alloc);
-    push_line(text.as_bytes(), &mut bytes)?;
+    put_line(text.as_bytes(), &mut bytes)?;
     Ok(bytes)
 }

@@ -21,7 +21,7 @@ use crate::report::fault_lines;
 use crate::status::{Status, TableKind};
 use dml_parser::Script;
 use plain_types::Text;
-use run_report::{is_refused, name_of, push_branch, push_steps};
+use run_report::{is_refused, name_of, put_branch, put_steps};
 use schedule_runner::{Run, count_rows, run_script};
 use session_machine::Stepped;
 use session_steps::RunFault;
@@ -151,7 +151,7 @@ fn broken(
     ensures memory { IfErr result (λ status. status ≡ Status.Memory) }
 {
     let mut lines = Vec::new(alloc);
-    push_steps(alloc, names, steps, &mut lines)?;
+    put_steps(alloc, names, steps, &mut lines)?;
     let fault = fault_lines(alloc, &status)?;
     lines.extend_from_slice(fault.as_slice())?;
     Ok(Report { status, lines })
@@ -237,8 +237,8 @@ fn whole(alloc: Global, names: &[Text], steps: &[Stepped], rows: usize) -> Resul
     ensures memory { IfErr result (λ status. status ≡ Status.Memory) }
 {
     let mut lines = Vec::new(alloc);
-    push_steps(alloc, names, steps, &mut lines)?;
-    push_branch(alloc, "main", rows, &mut lines)?;
+    put_steps(alloc, names, steps, &mut lines)?;
+    put_branch(alloc, "main", rows, &mut lines)?;
     let status = status_of_steps(steps);
     Ok(Report { status, lines })
 }

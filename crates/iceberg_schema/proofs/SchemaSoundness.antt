@@ -10,7 +10,8 @@ use Rattle.row_values.specs.declared.schema.TableSchema.{TableSchema}
 use Rattle.iceberg_schema.specs.declared.schema_fault.SchemaJsonFault.TheVariants as fault
 use Rattle.iceberg_schema.specs.KindText.{kind_of}
 use Rattle.iceberg_schema.specs.Keys.{int_at, text_at, bool_at, items_at, item_count}
-use Rattle.iceberg_schema.specs.SchemaJson.{is_reserved, has_id, has_name, column_of, columns_of, table_schema_of}
+use Rattle.row_values.specs.Columns.{has_id, has_name}
+use Rattle.iceberg_schema.specs.SchemaJson.{is_reserved, column_of, columns_of, table_schema_of}
 use Rattle.iceberg_schema.specs.SoundSchema.{same_id, same_name, IsSoundSchema}
 use Rattle.plain_types.specs.Steps.{or_fault, fault_if}
 use Rattle.plain_types.proofs.CallerLemmas.{two_steps, one_value}

@@ -81,7 +81,8 @@ numbered_passes text t h =
     none_read)
     t h
 
-transform_passes : (text : List ℕ) (t : Transform) → transform_of text ≡ Ok t → is_transform t ≡ true
+-- the number of a transform that is read is in range
+pub transform_passes : (text : List ℕ) (t : Transform) → transform_of text ≡ Ok t → is_transform t ≡ true
 unfolding transform_of
 transform_passes text t h =
     by_test (is_text text (codes "identity")) _ _ (of_value transform.Identity refl)
@@ -93,7 +94,8 @@ transform_passes text t h =
     (numbered_passes text))))))
     t h
 
-same_value : {A E F : Type 0} → (f : E → F) (r : Result A E) (a : A) → fault_as f r ≡ Ok a → r ≡ Ok a
+-- a reading with its fault under another name has the same value
+pub same_value : {A E F : Type 0} → (f : E → F) (r : Result A E) (a : A) → fault_as f r ≡ Ok a → r ≡ Ok a
 same_value f (Ok b) a h = cc
 same_value f (Err e) a h = cc
 

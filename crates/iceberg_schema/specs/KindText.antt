@@ -22,4 +22,11 @@ decimal_of bytes = do
 
 -- the kind that a type's text names
 unfoldable pub kind_of : List ℕ → Option Kind
-kind_of text = if pointwise nat_eq text (codes "boolean") then Some kind.Bool else (if pointwise nat_eq text (codes "int") then Some kind.Int else (if pointwise nat_eq text (codes "long") then Some kind.Long else (if pointwise nat_eq text (codes "date") then Some kind.Date else (if pointwise nat_eq text (codes "timestamp") then Some (kind.Timestamp false) else (if pointwise nat_eq text (codes "timestamptz") then Some (kind.Timestamp true) else (if pointwise nat_eq text (codes "string") then Some kind.Text else (if pointwise nat_eq text (codes "binary") then Some kind.Bytes else decimal_of text)))))))
+kind_of text = if pointwise nat_eq text (codes "boolean") then Some kind.Bool
+    else (if pointwise nat_eq text (codes "int") then Some kind.Int
+    else (if pointwise nat_eq text (codes "long") then Some kind.Long
+    else (if pointwise nat_eq text (codes "date") then Some kind.Date
+    else (if pointwise nat_eq text (codes "timestamp") then Some (kind.Timestamp false)
+    else (if pointwise nat_eq text (codes "timestamptz") then Some (kind.Timestamp true)
+    else (if pointwise nat_eq text (codes "string") then Some kind.Text
+    else (if pointwise nat_eq text (codes "binary") then Some kind.Bytes else decimal_of text)))))))

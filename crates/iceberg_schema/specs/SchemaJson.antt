@@ -1,10 +1,8 @@
 -- A schema as JSON (Iceberg specification, Appendix C, "Schemas"), and the first fault that a reading meets. The greatest
 -- number of columns and the longest name are the project's limits.
-use Rattle.std.specs.Prelude.{ℕ, ℤ, pos, int_le, ◌&&◌, ◌||◌, nat_eq, nat_lt, codes, List, [], ◌∷◌, ◌++◌, length, Bool, Result, Ok}
-use Rattle.std.specs.Ordering.{int_eq}
-use Rattle.std.specs.List.{list_any}
-use Rattle.std.specs.Cmp.Lexicographic.{pointwise}
+use Rattle.std.specs.Prelude.{ℤ, pos, int_le, ◌&&◌, ◌||◌, nat_eq, nat_lt, codes, List, [], ◌∷◌, ◌++◌, length, Bool, Result, Ok}
 use Rattle.serde_json.specs.Data.{Data, Items, no_items, item}
+use Rattle.row_values.specs.Columns.{has_id, has_name}
 use Rattle.row_values.specs.declared.schema.Column.{Column}
 use Rattle.row_values.specs.declared.schema.TableSchema.{TableSchema}
 use Rattle.iceberg_schema.specs.declared.schema_fault.SchemaJsonFault.{SchemaJsonFault}
@@ -16,12 +14,6 @@ use Rattle.plain_types.specs.Steps.{◌>>=◌, or_fault, fault_if}
 -- the ids of a position delete file's columns
 abbrev pub is_reserved : ℤ → Bool
 is_reserved id = int_le (pos 2147483544) id && int_le id (pos 2147483546)
-
-abbrev pub has_id : ℤ → List Column → Bool
-has_id id columns = list_any (λ column. int_eq column.id id) columns
-
-abbrev pub has_name : List ℕ → List Column → Bool
-has_name name columns = list_any (λ column. pointwise nat_eq column.name name) columns
 
 -- a column behind these ones
 unfoldable pub column_of : List Column → Data → Result Column SchemaJsonFault

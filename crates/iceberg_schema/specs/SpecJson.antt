@@ -1,9 +1,10 @@
 -- A partition spec as JSON (Iceberg specification, Appendix C, "Partition Specs"), and the first fault that a reading
 -- meets. The greatest number of fields is the project's limit.
-use Rattle.std.specs.Prelude.{ℤ, not, nat_lt, codes, List, [], ◌∷◌, ◌++◌, Bool, true, false, Option, Some, None, Result, Ok, Err, ⊤, if◌then◌else◌}
+use Rattle.std.specs.Prelude.{ℤ, not, nat_lt, codes, List, [], ◌∷◌, ◌++◌, Bool, true, false, Result, Ok, Err, ⊤, if◌then◌else◌}
 use Rattle.std.specs.Ordering.{int_eq}
 use Rattle.std.specs.List.{list_any}
 use Rattle.serde_json.specs.Data.{Data, Items, no_items, item}
+use Rattle.row_values.specs.Columns.{kind_of_column}
 use Rattle.row_values.specs.declared.kind.Kind.{Kind}
 use Rattle.row_values.specs.declared.kind.Kind.TheVariants as kind
 use Rattle.row_values.specs.declared.schema.Column.{Column}
@@ -52,11 +53,6 @@ takes transform.Void k = true
 abbrev pub is_void : Transform → Bool
 is_void transform.Void = true
 is_void _ = false
-
--- the kind of the column with the id
-unfoldable pub kind_of_column : ℤ → List Column → Option Kind
-kind_of_column id [] = None
-kind_of_column id (column ∷ columns) = if int_eq column.id id then Some column.kind else kind_of_column id columns
 
 -- The transform of a field takes its source column. A void one asks for no column.
 unfoldable pub source_fits : Transform → ℤ → List Column → Result ⊤ SpecFault

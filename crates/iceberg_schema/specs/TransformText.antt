@@ -26,4 +26,9 @@ unfoldable pub numbered_of : List ℕ → Result Transform TransformFault
 numbered_of text = by_option (after_text (codes "bucket[") text) (λ bytes. width_of bytes >>= λ n. Ok (transform.Bucket n)) (by_option (after_text (codes "truncate[") text) (λ bytes. width_of bytes >>= λ n. Ok (transform.Truncate n)) (Err fault.Name))
 
 unfoldable pub transform_of : List ℕ → Result Transform TransformFault
-transform_of text = if is_text text (codes "identity") then Ok transform.Identity else (if is_text text (codes "void") then Ok transform.Void else (if is_text text (codes "year") || is_text text (codes "years") then Ok transform.Year else (if is_text text (codes "month") || is_text text (codes "months") then Ok transform.Month else (if is_text text (codes "day") || is_text text (codes "days") then Ok transform.Day else (if is_text text (codes "hour") || is_text text (codes "hours") then Ok transform.Hour else numbered_of text)))))
+transform_of text = if is_text text (codes "identity") then Ok transform.Identity
+    else (if is_text text (codes "void") then Ok transform.Void
+    else (if is_text text (codes "year") || is_text text (codes "years") then Ok transform.Year
+    else (if is_text text (codes "month") || is_text text (codes "months") then Ok transform.Month
+    else (if is_text text (codes "day") || is_text text (codes "days") then Ok transform.Day
+    else (if is_text text (codes "hour") || is_text text (codes "hours") then Ok transform.Hour else numbered_of text)))))

@@ -1,13 +1,15 @@
 //! Schemas as JSON.
-ghost use Rattle.std.specs.Prelude.{◌≡◌, ◌≢◌, [], IfOk, IfErr, Ok, Err};
+ghost use Rattle.std.specs.Prelude.{◌≡◌, ◌≢◌, [], IfOk};
+ghost use Rattle.plain_types.specs.Answers.{Answers};
 ghost use Rattle.serde_json.specs.View.{view, items_view};
 ghost use Rattle.iceberg_schema.specs.SoundSchema.{IsSoundSchema};
-ghost use Rattle.iceberg_schema.specs.SchemaJson.{is_reserved, has_id, has_name, column_of, columns_of, table_schema_of};
+ghost use Rattle.row_values.specs.Columns.{has_id, has_name};
+ghost use Rattle.iceberg_schema.specs.SchemaJson.{is_reserved, column_of, columns_of, table_schema_of};
 
 use crate::SchemaJsonFault;
 use crate::keys::{bool_at, int_at, item_count, items_at, text_at};
 use crate::kind_text::kind_of;
-use row_values::{Column, List, TableSchema, Text};
+use row_values::{Column, List, TableSchema, Text, has_id, has_name};
 use serde_json::Value;
 use std::alloc::Global;
 
@@ -25,9 +27,8 @@ const LAST_RESERVED_ID: i32 = 2147483546;
 /// that has one.
 #[tactic(auto, unfolding(crate::specs::SchemaJson::table_schema_of))]
 pub fn read_table_schema(alloc: Global, json: &Value) -> Result<TableSchema, SchemaJsonFault>
-    ensures ok { IfOk result (λ s. table_schema_of (view json.now) ≡ Ok s) }
+    ensures answers { Answers SchemaJsonFault.Memory (λ s. s) result (table_schema_of (view json.now)) }
     ensures sound { IfOk result (λ s. IsSoundSchema s) }
-    ensures err { IfErr result (λ f. f ≢ SchemaJsonFault.Memory → table_schema_of (view json.now) ≡ Err f) }
 {
     let Some(id) = int_at(json, "schema-id") else {
         return Err(missing(alloc, "schema-id"));
@@ -55,8 +56,7 @@ fn missing(alloc: Global, key: &str) -> SchemaJsonFault
 
 #[tactic(auto, unfolding(crate::specs::SchemaJson::columns_of))]
 fn read_columns(alloc: Global, fields: &[Value]) -> Result<List<Column>, SchemaJsonFault>
-    ensures ok { IfOk result (λ columns. columns_of [] (items_view fields.now) ≡ Ok columns) }
-    ensures err { IfErr result (λ f. f ≢ SchemaJsonFault.Memory → columns_of [] (items_view fields.now) ≡ Err f) }
+    ensures answers { Answers SchemaJsonFault.Memory (λ columns. columns) result (columns_of [] (items_view fields.now)) }
 {
     let mut columns = Vec::new(alloc);
     let mut rest = fields;
@@ -70,8 +70,7 @@ fn read_columns(alloc: Global, fields: &[Value]) -> Result<List<Column>, SchemaJ
 
 #[tactic(auto, unfolding(crate::specs::SchemaJson::column_of))]
 fn read_column(alloc: Global, earlier: &[Column], json: &Value) -> Result<Column, SchemaJsonFault>
-    ensures ok { IfOk result (λ column. column_of earlier.now (view json.now) ≡ Ok column) }
-    ensures err { IfErr result (λ f. f ≢ SchemaJsonFault.Memory → column_of earlier.now (view json.now) ≡ Err f) }
+    ensures answers { Answers SchemaJsonFault.Memory (λ column. column) result (column_of earlier.now (view json.now)) }
 {
     let Some(id) = int_at(json, "id") else {
         return Err(missing(alloc, "id"));
@@ -108,16 +107,4 @@ fn is_reserved(id: i32) -> bool
     ensures { result ≡ is_reserved id }
 {
     FIRST_RESERVED_ID <= id && id <= LAST_RESERVED_ID
-}
-
-fn has_id(id: i32, columns: &[Column]) -> bool
-    ensures { result ≡ has_id id columns.now }
-{
-    columns.iter().any(|column| column.id == id)
-}
-
-fn has_name(name: &str, columns: &[Column]) -> bool
-    ensures { result ≡ has_name name.now columns.now }
-{
-    columns.iter().any(|column| column.name.as_str() == name)
 }

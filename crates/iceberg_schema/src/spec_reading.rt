@@ -1,7 +1,9 @@
 //! Partition specs as JSON.
-ghost use Rattle.std.specs.Prelude.{◌≡◌, ◌≢◌, [], IfOk, IfErr, Ok, Err};
+ghost use Rattle.std.specs.Prelude.{◌≡◌, ◌≢◌, [], IfOk};
+ghost use Rattle.plain_types.specs.Answers.{Answers};
 ghost use Rattle.serde_json.specs.View.{view, items_view};
 ghost use Rattle.iceberg_schema.specs.SoundSpec.{IsSoundSpec};
+ghost use Rattle.row_values.specs.Columns.{kind_of_column};
 ghost use Rattle.iceberg_schema.specs.SpecJson.{
   takes,
   is_void,
@@ -9,7 +11,6 @@ ghost use Rattle.iceberg_schema.specs.SpecJson.{
   is_day_or_time,
   is_hashed,
   is_truncated,
-  kind_of_column,
   source_fits,
   has_field,
   field_of,
@@ -20,7 +21,9 @@ ghost use Rattle.iceberg_schema.specs.SpecJson.{
 use crate::SpecFault;
 use crate::keys::{int_at, item_count, items_at, text_at};
 use crate::transform_text::read_transform;
-use row_values::{Column, Kind, List, PartField, Spec, TableSchema, Text, Transform};
+use row_values::{
+    Column, Kind, List, PartField, Spec, TableSchema, Text, Transform, kind_of_column,
+};
 use serde_json::Value;
 use std::alloc::Global;
 
@@ -31,9 +34,8 @@ const MAX_FIELDS: usize = 16;
 /// then of the first field that has one.
 #[tactic(auto, unfolding(crate::specs::SpecJson::spec_of))]
 pub fn read_spec(alloc: Global, json: &Value, schema: &TableSchema) -> Result<Spec, SpecFault>
-    ensures ok { IfOk result (λ s. spec_of schema.now.columns (view json.now) ≡ Ok s) }
+    ensures answers { Answers SpecFault.Memory (λ s. s) result (spec_of schema.now.columns (view json.now)) }
     ensures sound { IfOk result (λ s. IsSoundSpec schema.now.columns s) }
-    ensures err { IfErr result (λ f. f ≢ SpecFault.Memory → spec_of schema.now.columns (view json.now) ≡ Err f) }
 {
     let Some(id) = int_at(json, "spec-id") else {
         return Err(missing(alloc, "spec-id"));
@@ -65,8 +67,7 @@ fn read_fields(
     columns: &[Column],
     items: &[Value],
 ) -> Result<List<PartField>, SpecFault>
-    ensures ok { IfOk result (λ fields. fields_of columns.now [] (items_view items.now) ≡ Ok fields) }
-    ensures err { IfErr result (λ f. f ≢ SpecFault.Memory → fields_of columns.now [] (items_view items.now) ≡ Err f) }
+    ensures answers { Answers SpecFault.Memory (λ fields. fields) result (fields_of columns.now [] (items_view items.now)) }
 {
     let mut fields = Vec::new(alloc);
     let mut rest = items;
@@ -85,8 +86,7 @@ fn read_field(
     earlier: &[PartField],
     json: &Value,
 ) -> Result<PartField, SpecFault>
-    ensures ok { IfOk result (λ field. field_of columns.now earlier.now (view json.now) ≡ Ok field) }
-    ensures err { IfErr result (λ f. f ≢ SpecFault.Memory → field_of columns.now earlier.now (view json.now) ≡ Err f) }
+    ensures answers { Answers SpecFault.Memory (λ field. field) result (field_of columns.now earlier.now (view json.now)) }
 {
     let Some(source) = int_at(json, "source-id") else {
         return Err(missing(alloc, "source-id"));
@@ -140,21 +140,6 @@ fn has_field(id: i32, fields: &[PartField]) -> bool
     ensures { result ≡ has_field id fields.now }
 {
     fields.iter().any(|field| field.field == id)
-}
-
-/// The kind of the column with the id.
-#[tactic(auto, unfolding(crate::specs::SpecJson::kind_of_column))]
-fn kind_of_column(id: i32, columns: &[Column]) -> Option<Kind>
-    ensures { result ≡ kind_of_column id columns.now }
-{
-    let mut rest = columns;
-    while let [column, after @ ..] = rest {
-        if column.id == id {
-            return Some(column.kind);
-        }
-        rest = after;
-    }
-    None
 }
 
 fn is_void(transform: Transform) -> bool

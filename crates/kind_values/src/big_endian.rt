@@ -73,18 +73,13 @@ fn digit(negative: bool, byte: u8) -> u8
 
 /// Appends so many digits of a size.
 #[tactic(auto, using(crate::proofs::Steps::digits_end), unfolding(crate::specs::BigEndian::digits_of))]
-fn write_digits(
-    negative: bool,
-    count: usize,
-    size: u128,
-    out: &mut Vec<u8>,
-) -> Result<(), AllocError>
+fn put_digits(negative: bool, count: usize, size: u128, out: &mut Vec<u8>) -> Result<(), AllocError>
     ensures { Appends out.old.items out.new.items (digits_of negative count size) result }
 {
     if count == 0 {
         return Ok(());
     }
-    write_digits(negative, count - 1, size / 256, out)?;
+    put_digits(negative, count - 1, size / 256, out)?;
     out.push(digit(negative, (size % 256) as u8))?;
     Ok(())
 }
@@ -121,15 +116,15 @@ pub fn byte_count(number: i128) -> usize
 }
 
 /// Appends the number in so many bytes of big-endian two's complement. One that takes more loses the highest.
-pub fn write_signed_in(count: usize, number: i128, out: &mut Vec<u8>) -> Result<(), AllocError>
+pub fn put_signed_in(count: usize, number: i128, out: &mut Vec<u8>) -> Result<(), AllocError>
     ensures { Appends out.old.items out.new.items (bytes_in count number) result }
 {
-    write_digits(number < 0, count, size_of(number), out)
+    put_digits(number < 0, count, size_of(number), out)
 }
 
 /// Appends the number in the fewest bytes of big-endian two's complement.
-pub fn write_signed(number: i128, out: &mut Vec<u8>) -> Result<(), AllocError>
+pub fn put_signed(number: i128, out: &mut Vec<u8>) -> Result<(), AllocError>
     ensures { Appends out.old.items out.new.items (signed_bytes number) result }
 {
-    write_signed_in(byte_count(number), number, out)
+    put_signed_in(byte_count(number), number, out)
 }

@@ -14,15 +14,15 @@ mod stats;
 mod values;
 mod writing;
 
-pub use big_endian::{byte_count, signed_of, write_signed, write_signed_in};
+pub use big_endian::{byte_count, put_signed, put_signed_in, signed_of};
 pub use bound::read_bound;
 pub use bound_laws::a_written_bound_is_read_again;
 pub use byte_laws::{a_written_number_is_read_again, written_bytes_are_the_fewest};
 pub use kinds::is_value;
-pub use little_endian::{int_of, long_of, write_int, write_long};
+pub use little_endian::{int_of, long_of, put_int, put_long};
 pub use row_values::{Kind, List, Value};
 pub use stats::{ColumnStats, Stats, Summary};
 pub use values::{
     bytes_value, date_value, decimal_value, int_value, long_value, text_value, timestamp_value,
 };
-pub use writing::write_bound;
+pub use writing::put_bound;

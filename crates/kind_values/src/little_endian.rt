@@ -74,14 +74,14 @@ pub fn long_of(bytes: &[u8]) -> Option<i64>
 
 /// Appends so many bytes of a number.
 #[tactic(auto, using(crate::proofs::Steps::lowest_begin), unfolding(crate::specs::LittleEndian::lowest_first))]
-fn write_lowest_first(count: u8, number: u64, out: &mut Vec<u8>) -> Result<(), AllocError>
+fn put_lowest_first(count: u8, number: u64, out: &mut Vec<u8>) -> Result<(), AllocError>
     ensures { Appends out.old.items out.new.items (lowest_first count number) result }
 {
     if count == 0 {
         return Ok(());
     }
     out.push((number % 256) as u8)?;
-    write_lowest_first(count - 1, number / 256, out)
+    put_lowest_first(count - 1, number / 256, out)
 }
 
 /// The number of 32 bits that stands for this one.
@@ -92,10 +92,10 @@ fn without_sign_32(number: i32) -> u32
 }
 
 /// Appends the four bytes of a whole number in little-endian two's complement.
-pub fn write_int(number: i32, out: &mut Vec<u8>) -> Result<(), AllocError>
+pub fn put_int(number: i32, out: &mut Vec<u8>) -> Result<(), AllocError>
     ensures { Appends out.old.items out.new.items (int_bytes number) result }
 {
-    write_lowest_first(4, u64::from(without_sign_32(number)), out)
+    put_lowest_first(4, u64::from(without_sign_32(number)), out)
 }
 
 /// The number of 64 bits that stands for this one.
@@ -106,8 +106,8 @@ fn without_sign_64(number: i64) -> u64
 }
 
 /// Appends the eight bytes of a whole number in little-endian two's complement.
-pub fn write_long(number: i64, out: &mut Vec<u8>) -> Result<(), AllocError>
+pub fn put_long(number: i64, out: &mut Vec<u8>) -> Result<(), AllocError>
     ensures { Appends out.old.items out.new.items (long_bytes number) result }
 {
-    write_lowest_first(8, without_sign_64(number), out)
+    put_lowest_first(8, without_sign_64(number), out)
 }

@@ -133,7 +133,21 @@ allowed status places parts values = do
   single_keys id_of.upper_bounds places.upper values
 
 abbrev pub whole_entry : ℕ → Numbers → ℤ → FileParts → Stats → Entry
-whole_entry status numbers spec parts stats = record { status = status; snapshot = numbers.snapshot; seq = numbers.seq; file_seq = numbers.file_seq; content = parts.content; path = parts.path; spec = spec; partition = parts.partition; count = parts.count; size = parts.size; stats = stats; equality_ids = parts.equality_ids; referenced = parts.referenced }
+whole_entry status numbers spec parts stats = record {
+  status = status;
+  snapshot = numbers.snapshot;
+  seq = numbers.seq;
+  file_seq = numbers.file_seq;
+  content = parts.content;
+  path = parts.path;
+  spec = spec;
+  partition = parts.partition;
+  count = parts.count;
+  size = parts.size;
+  stats = stats;
+  equality_ids = parts.equality_ids;
+  referenced = parts.referenced;
+}
 
 unfoldable pub entry_of : EntryPlaces → ManifestRow → ℤ → List KnownColumn → Datum → Result Entry ManifestFault
 entry_of places row spec columns datum = do

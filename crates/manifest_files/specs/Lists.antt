@@ -66,7 +66,22 @@ row_head places values = do
 
 -- the row, with what it may lack
 abbrev pub whole_row : RowPlaces → List Datum → RowHead → List Summary → ManifestRow
-whole_row places values head partitions = record { manifest_path = head.path; manifest_length = option_and_then long_in (present_at values places.file_length); partition_spec_id = head.spec; content = head.content; sequence_number = head.seq; min_sequence_number = head.min_seq; added_snapshot_id = head.snapshot; added_files_count = file_count places.added_files values; existing_files_count = file_count places.existing_files values; deleted_files_count = file_count places.deleted_files values; added_rows_count = row_count places.added_rows values; existing_rows_count = row_count places.existing_rows values; deleted_rows_count = row_count places.deleted_rows values; partitions = partitions }
+whole_row places values head partitions = record {
+  manifest_path = head.path;
+  manifest_length = option_and_then long_in (present_at values places.file_length);
+  partition_spec_id = head.spec;
+  content = head.content;
+  sequence_number = head.seq;
+  min_sequence_number = head.min_seq;
+  added_snapshot_id = head.snapshot;
+  added_files_count = file_count places.added_files values;
+  existing_files_count = file_count places.existing_files values;
+  deleted_files_count = file_count places.deleted_files values;
+  added_rows_count = row_count places.added_rows values;
+  existing_rows_count = row_count places.existing_rows values;
+  deleted_rows_count = row_count places.deleted_rows values;
+  partitions = partitions;
+}
 
 unfoldable pub row_of : RowPlaces → List Datum → Result ManifestRow ManifestFault
 row_of places values = do

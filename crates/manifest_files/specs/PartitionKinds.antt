@@ -1,8 +1,8 @@
 -- The kinds of partition values (Iceberg specification, "Partitioning" and "Partition Transforms"). Only NULL stands
 -- under a void transform, and under a field whose source column is gone.
-use Rattle.std.specs.Prelude.{ℤ, Bool, true, List, [], ◌∷◌, Option, Some, None, option_and_then, if◌then◌else◌}
-use Rattle.std.specs.Ordering.{int_eq}
+use Rattle.std.specs.Prelude.{Bool, true, List, Option, Some, None, option_and_then}
 use Rattle.plain_types.specs.Steps.{by_option}
+use Rattle.row_values.specs.Columns.{kind_of_column}
 use Rattle.row_values.specs.declared.kind.Kind.{Kind}
 use Rattle.row_values.specs.declared.kind.Kind.TheVariants as kind
 use Rattle.row_values.specs.declared.schema.Column.{Column}
@@ -22,11 +22,6 @@ kind_given transform.Month k = Some kind.Int
 kind_given transform.Day k = Some kind.Date
 kind_given transform.Hour k = Some kind.Int
 kind_given transform.Void k = None
-
--- the kind of the column with the id
-unfoldable pub kind_of_column : ℤ → List Column → Option Kind
-kind_of_column id [] = None
-kind_of_column id (column ∷ columns) = if int_eq column.id id then Some column.kind else kind_of_column id columns
 
 -- the kind of a partition field's values
 abbrev pub kind_of_field : List Column → PartField → Option Kind

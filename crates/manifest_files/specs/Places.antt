@@ -139,4 +139,20 @@ row_places fields = do
   deleted_rows ← optional type.Long id_of.deleted_rows_count fields
   summaries ← summary_places fields
   key ← optional type.Bytes id_of.manifest_key_metadata fields
-  Ok (record { path = path; file_length = file_length; spec = spec; content = content; seq = seq; min_seq = min_seq; snapshot = snapshot; added_files = added_files; existing_files = existing_files; deleted_files = deleted_files; added_rows = added_rows; existing_rows = existing_rows; deleted_rows = deleted_rows; summaries = summaries; key = key })
+  Ok (record {
+    path = path;
+    file_length = file_length;
+    spec = spec;
+    content = content;
+    seq = seq;
+    min_seq = min_seq;
+    snapshot = snapshot;
+    added_files = added_files;
+    existing_files = existing_files;
+    deleted_files = deleted_files;
+    added_rows = added_rows;
+    existing_rows = existing_rows;
+    deleted_rows = deleted_rows;
+    summaries = summaries;
+    key = key;
+  })

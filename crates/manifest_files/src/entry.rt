@@ -1,4 +1,6 @@
 //! An entry of a manifest.
+ghost use Rattle.std.specs.Prelude.{◌≡◌};
+ghost use Rattle.manifest_files.specs.Entries.{is_live};
 
 use kind_values::Stats;
 use row_values::{List, Row, Text};
@@ -31,6 +33,21 @@ pub struct Entry {
     pub equality_ids: List<i32>,
     /// The data file that all of a position delete file's rows are of.
     pub referenced: Option<Text>,
+}
+
+impl Entry {
+    /// Whether the file is one of the snapshot's: an existing or an added one.
+    pub fn is_live(&self) -> bool
+        ensures { result ≡ is_live self.now.status }
+    {
+        is_live(self.status)
+    }
+}
+
+pub(crate) fn is_live(status: u8) -> bool
+    ensures { result ≡ is_live status }
+{
+    status < 2
 }
 
 /// What the record of a file says, beside its statistics.

@@ -1,5 +1,6 @@
 //! The places of the fields of manifests and of lists, or the first fault in the order of the fields.
-ghost use Rattle.std.specs.Prelude.{◌≡◌, ◌≢◌, [], IfOk, IfErr, Ok, Err};
+ghost use Rattle.std.specs.Prelude.{◌≡◌, []};
+ghost use Rattle.plain_types.specs.Answers.{Answers};
 ghost use Rattle.manifest_files.specs.Places.{
   part_place,
   part_places,
@@ -56,8 +57,7 @@ fn part_places(
     fields: &[Field],
     parts: &[PartField],
 ) -> Result<List<PartPlace>, ManifestFault>
-    ensures ok { IfOk result (λ places. part_places columns.now fields.now [] parts.now ≡ Ok places) }
-    ensures err { IfErr result (λ f. f ≢ ManifestFault.Memory → part_places columns.now fields.now [] parts.now ≡ Err f) }
+    ensures answers { Answers ManifestFault.Memory (λ places. places) result (part_places columns.now fields.now [] parts.now) }
 {
     let mut places = Vec::new(alloc);
     let mut rest = parts;
@@ -77,8 +77,7 @@ fn file_places(
     parts: &[PartField],
     fields: &[Field],
 ) -> Result<FilePlaces, ManifestFault>
-    ensures ok { IfOk result (λ places. file_places columns.now parts.now fields.now ≡ Ok places) }
-    ensures err { IfErr result (λ f. f ≢ ManifestFault.Memory → file_places columns.now parts.now fields.now ≡ Err f) }
+    ensures answers { Answers ManifestFault.Memory (λ places. places) result (file_places columns.now parts.now fields.now) }
 {
     let content = optional(FieldType::Int, field_ids::CONTENT, fields)?;
     let path = needed(FieldType::Text, field_ids::FILE_PATH, fields)?;
@@ -149,8 +148,7 @@ pub(crate) fn entry_places(
     parts: &[PartField],
     fields: &[Field],
 ) -> Result<EntryPlaces, ManifestFault>
-    ensures ok { IfOk result (λ places. entry_places columns.now parts.now fields.now ≡ Ok places) }
-    ensures err { IfErr result (λ f. f ≢ ManifestFault.Memory → entry_places columns.now parts.now fields.now ≡ Err f) }
+    ensures answers { Answers ManifestFault.Memory (λ places. places) result (entry_places columns.now parts.now fields.now) }
 {
     let status = needed(FieldType::Int, field_ids::STATUS, fields)?;
     let snapshot = optional(FieldType::Long, field_ids::SNAPSHOT_ID, fields)?;

@@ -1,5 +1,6 @@
 //! The rows of a manifest list.
-ghost use Rattle.std.specs.Prelude.{◌≡◌, ◌≢◌, [], IfOk, IfErr, Ok, Err};
+ghost use Rattle.std.specs.Prelude.{◌≡◌, [], IfOk};
+ghost use Rattle.plain_types.specs.Answers.{Answers};
 ghost use Rattle.plain_types.specs.Steps.{fault_as};
 ghost use Rattle.avro_container.specs.Container.{container_of};
 ghost use Rattle.manifest_files.specs.Lists.{
@@ -83,8 +84,7 @@ fn summary_of(
     places: &SummaryPlaces,
     datum: &Datum,
 ) -> Result<Summary, ManifestFault>
-    ensures ok { IfOk result (λ summary. summary_of places.now datum.now ≡ Ok summary) }
-    ensures err { IfErr result (λ f. f ≢ ManifestFault.Memory → summary_of places.now datum.now ≡ Err f) }
+    ensures answers { Answers ManifestFault.Memory (λ summary. summary) result (summary_of places.now datum.now) }
 {
     let Some(element) = present_in(datum) else {
         return Err(ManifestFault::Kind(field_ids::PARTITIONS));
@@ -106,8 +106,7 @@ fn summaries_of(
     places: &SummaryPlaces,
     datums: &[Datum],
 ) -> Result<List<Summary>, ManifestFault>
-    ensures ok { IfOk result (λ summaries. summaries_from places.now [] datums.now ≡ Ok summaries) }
-    ensures err { IfErr result (λ f. f ≢ ManifestFault.Memory → summaries_from places.now [] datums.now ≡ Err f) }
+    ensures answers { Answers ManifestFault.Memory (λ summaries. summaries) result (summaries_from places.now [] datums.now) }
 {
     let mut summaries = Vec::new(alloc);
     let mut rest = datums;
@@ -122,8 +121,7 @@ fn summaries_of(
 /// What each row has.
 #[tactic(auto, unfolding(crate::specs::Lists::row_head))]
 fn row_head(alloc: Global, places: &RowPlaces, values: &[Datum]) -> Result<RowHead, ManifestFault>
-    ensures ok { IfOk result (λ head. row_head places.now values.now ≡ Ok head) }
-    ensures err { IfErr result (λ f. f ≢ ManifestFault.Memory → row_head places.now values.now ≡ Err f) }
+    ensures answers { Answers ManifestFault.Memory (λ head. head) result (row_head places.now values.now) }
 {
     let path = needed_text(alloc, field_ids::MANIFEST_PATH, places.path, values)?;
     let spec = needed_int(field_ids::PARTITION_SPEC_ID, places.spec, values)?;
@@ -179,8 +177,7 @@ fn whole_row(
 
 #[tactic(auto, unfolding(crate::specs::Lists::row_of))]
 fn row_of(alloc: Global, places: &RowPlaces, values: &[Datum]) -> Result<ManifestRow, ManifestFault>
-    ensures ok { IfOk result (λ row. row_of places.now values.now ≡ Ok row) }
-    ensures err { IfErr result (λ f. f ≢ ManifestFault.Memory → row_of places.now values.now ≡ Err f) }
+    ensures answers { Answers ManifestFault.Memory (λ row. row) result (row_of places.now values.now) }
 {
     let head = row_head(alloc, places, values)?;
     let items = items_at(values, places.summaries.place);
@@ -197,8 +194,7 @@ fn rows_of(
     places: &RowPlaces,
     datums: &[Datum],
 ) -> Result<List<ManifestRow>, ManifestFault>
-    ensures ok { IfOk result (λ rows. rows_from places.now [] datums.now ≡ Ok rows) }
-    ensures err { IfErr result (λ f. f ≢ ManifestFault.Memory → rows_from places.now [] datums.now ≡ Err f) }
+    ensures answers { Answers ManifestFault.Memory (λ rows. rows) result (rows_from places.now [] datums.now) }
 {
     let mut rows = Vec::with_capacity(alloc, datums.len())?;
     let mut rest = datums;
@@ -212,8 +208,7 @@ fn rows_of(
 
 /// The container that the bytes are.
 pub(crate) fn container_of(alloc: Global, bytes: &[u8]) -> Result<Container, ManifestFault>
-    ensures ok { IfOk result (λ c. fault_as ManifestFault.Container (container_of bytes.now) ≡ Ok c) }
-    ensures err { IfErr result (λ f. f ≢ ManifestFault.Memory → fault_as ManifestFault.Container (container_of bytes.now) ≡ Err f) }
+    ensures answers { Answers ManifestFault.Memory (λ c. c) result (fault_as ManifestFault.Container (container_of bytes.now)) }
 {
     match read_container(alloc, bytes) {
         Ok(container) => Ok(container),
@@ -226,8 +221,7 @@ pub(crate) fn container_of(alloc: Global, bytes: &[u8]) -> Result<Container, Man
 /// of the fields, then that of the first row that has one.
 #[tactic(auto, unfolding(crate::specs::Lists::rows_of_list))]
 pub fn read_list(alloc: Global, bytes: &[u8]) -> Result<List<ManifestRow>, ManifestFault>
-    ensures ok { IfOk result (λ rows. rows_of_list bytes.now ≡ Ok rows) }
-    ensures err { IfErr result (λ f. f ≢ ManifestFault.Memory → rows_of_list bytes.now ≡ Err f) }
+    ensures answers { Answers ManifestFault.Memory (λ rows. rows) result (rows_of_list bytes.now) }
 {
     let container = container_of(alloc, bytes)?;
     let places = row_places(fields_of(&container.schema))?;

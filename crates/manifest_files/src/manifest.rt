@@ -1,9 +1,9 @@
 //! The entries of a manifest.
-ghost use Rattle.std.specs.Prelude.{◌≡◌, ◌≢◌, [], IfOk, IfErr, Ok, Err};
+ghost use Rattle.std.specs.Prelude.{◌≡◌, ◌≢◌, [], Err};
+ghost use Rattle.plain_types.specs.Answers.{Answers};
 ghost use Rattle.manifest_files.specs.Entries.{
   status_of,
   status_at,
-  is_live,
   raw_numbers,
   content_of,
   content_at,
@@ -29,7 +29,7 @@ ghost use Rattle.manifest_files.specs.Entries.{
 use crate::datum_values::{
     int_at, int_in, items_at, long_at, present, present_at, present_in, text_at, text_bytes_at,
 };
-use crate::entry::FileParts;
+use crate::entry::{FileParts, is_live};
 use crate::known_column::KnownColumn;
 use crate::layout::entry_places;
 use crate::list::container_of;
@@ -66,12 +66,6 @@ fn status_at(place: usize, values: &[Datum]) -> Result<u8, ManifestFault>
         Some(number) => status_of(number),
         None => Err(ManifestFault::Kind(field_ids::STATUS)),
     }
-}
-
-fn is_live(status: u8) -> bool
-    ensures { result ≡ is_live status }
-{
-    status < 2
 }
 
 /// What the entry itself says of its numbers.
@@ -136,8 +130,7 @@ fn format_at(place: usize, values: &[Datum]) -> Result<bool, ManifestFault>
 
 /// A partition value of its field's kind, or NULL.
 fn part_value(alloc: Global, values: &[Datum], part: &PartPlace) -> Result<Value, ManifestFault>
-    ensures ok { IfOk result (λ v. part_value values.now part.now ≡ Ok v) }
-    ensures err { IfErr result (λ f. f ≢ ManifestFault.Memory → part_value values.now part.now ≡ Err f) }
+    ensures answers { Answers ManifestFault.Memory (λ v. v) result (part_value values.now part.now) }
 {
     let Some(datum) = present(values, part.place) else {
         return Ok(Value::Null);
@@ -153,8 +146,7 @@ fn part_value(alloc: Global, values: &[Datum], part: &PartPlace) -> Result<Value
 
 #[tactic(auto, unfolding(crate::specs::Entries::part_values))]
 fn part_values(alloc: Global, values: &[Datum], parts: &[PartPlace]) -> Result<Row, ManifestFault>
-    ensures ok { IfOk result (λ row. part_values values.now [] parts.now ≡ Ok row) }
-    ensures err { IfErr result (λ f. f ≢ ManifestFault.Memory → part_values values.now [] parts.now ≡ Err f) }
+    ensures answers { Answers ManifestFault.Memory (λ row. row) result (part_values values.now [] parts.now) }
 {
     let mut row = Vec::with_capacity(alloc, parts.len())?;
     let mut rest = parts;
@@ -169,8 +161,7 @@ fn part_values(alloc: Global, values: &[Datum], parts: &[PartPlace]) -> Result<R
 /// One value for each field of the spec.
 #[tactic(auto, unfolding(crate::specs::Entries::partition_at))]
 fn partition_at(alloc: Global, places: &FilePlaces, values: &[Datum]) -> Result<Row, ManifestFault>
-    ensures ok { IfOk result (λ row. partition_at places.now values.now ≡ Ok row) }
-    ensures err { IfErr result (λ f. f ≢ ManifestFault.Memory → partition_at places.now values.now ≡ Err f) }
+    ensures answers { Answers ManifestFault.Memory (λ row. row) result (partition_at places.now values.now) }
 {
     match present(values, places.partition) {
         Some(datum) => part_values(alloc, values_of(datum), places.part_fields.as_slice()),
@@ -192,8 +183,7 @@ fn id_in(datum: &Datum) -> Result<i32, ManifestFault>
 
 #[tactic(auto, unfolding(crate::specs::Entries::ids_from))]
 fn ids_of(alloc: Global, datums: &[Datum]) -> Result<List<i32>, ManifestFault>
-    ensures ok { IfOk result (λ ids. ids_from [] datums.now ≡ Ok ids) }
-    ensures err { IfErr result (λ f. f ≢ ManifestFault.Memory → ids_from [] datums.now ≡ Err f) }
+    ensures answers { Answers ManifestFault.Memory (λ ids. ids) result (ids_from [] datums.now) }
 {
     let mut ids = Vec::with_capacity(alloc, datums.len())?;
     let mut rest = datums;
@@ -244,8 +234,7 @@ fn file_parts(
     places: &FilePlaces,
     values: &[Datum],
 ) -> Result<FileParts, ManifestFault>
-    ensures ok { IfOk result (λ parts. file_parts places.now values.now ≡ Ok parts) }
-    ensures err { IfErr result (λ f. f ≢ ManifestFault.Memory → file_parts places.now values.now ≡ Err f) }
+    ensures answers { Answers ManifestFault.Memory (λ parts. parts) result (file_parts places.now values.now) }
 {
     let content = content_at(places.content, values)?;
     let path = needed_text(alloc, field_ids::FILE_PATH, places.path, values)?;
@@ -339,8 +328,7 @@ fn entry_of(
     columns: &[KnownColumn],
     datum: &Datum,
 ) -> Result<Entry, ManifestFault>
-    ensures ok { IfOk result (λ entry. entry_of places.now row.now spec columns.now datum.now ≡ Ok entry) }
-    ensures err { IfErr result (λ f. f ≢ ManifestFault.Memory → entry_of places.now row.now spec columns.now datum.now ≡ Err f) }
+    ensures answers { Answers ManifestFault.Memory (λ entry. entry) result (entry_of places.now row.now spec columns.now datum.now) }
 {
     let values = values_of(datum);
     let status = status_at(places.status, values)?;
@@ -364,8 +352,7 @@ fn entries_from(
     columns: &[KnownColumn],
     datums: &[Datum],
 ) -> Result<List<Entry>, ManifestFault>
-    ensures ok { IfOk result (λ entries. entries_from places.now row.now spec columns.now [] datums.now ≡ Ok entries) }
-    ensures err { IfErr result (λ f. f ≢ ManifestFault.Memory → entries_from places.now row.now spec columns.now [] datums.now ≡ Err f) }
+    ensures answers { Answers ManifestFault.Memory (λ entries. entries) result (entries_from places.now row.now spec columns.now [] datums.now) }
 {
     let mut entries = Vec::with_capacity(alloc, datums.len())?;
     let mut rest = datums;
@@ -389,8 +376,7 @@ pub fn read_manifest(
     spec: &Spec,
     schema: &TableSchema,
 ) -> Result<List<Entry>, ManifestFault>
-    ensures ok { IfOk result (λ entries. entries_of bytes.now row.now spec.now schema.now ≡ Ok entries) }
-    ensures err { IfErr result (λ f. f ≢ ManifestFault.Memory → entries_of bytes.now row.now spec.now schema.now ≡ Err f) }
+    ensures answers { Answers ManifestFault.Memory (λ entries. entries) result (entries_of bytes.now row.now spec.now schema.now) }
 {
     let container = container_of(alloc, bytes)?;
     let columns = schema.columns.as_slice();

@@ -1,5 +1,6 @@
 //! The values that each record has, of which a null is a fault of the field.
-ghost use Rattle.std.specs.Prelude.{◌≡◌, ◌≢◌, IfOk, IfErr, Ok, Err};
+ghost use Rattle.std.specs.Prelude.{◌≡◌};
+ghost use Rattle.plain_types.specs.Answers.{Answers};
 ghost use Rattle.manifest_files.specs.Needed.{needed_text, needed_count, needed_int, needed_long};
 
 use crate::ManifestFault;
@@ -14,8 +15,7 @@ pub(crate) fn needed_text(
     place: usize,
     values: &[Datum],
 ) -> Result<Text, ManifestFault>
-    ensures ok { IfOk result (λ t. needed_text id place values.now ≡ Ok t) }
-    ensures err { IfErr result (λ f. f ≢ ManifestFault.Memory → needed_text id place values.now ≡ Err f) }
+    ensures answers { Answers ManifestFault.Memory (λ t. t) result (needed_text id place values.now) }
 {
     match text_at(alloc, values, Some(place))? {
         Some(text) => Ok(text),

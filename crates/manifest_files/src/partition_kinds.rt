@@ -1,10 +1,11 @@
 //! The kinds of partition values.
 ghost use Rattle.std.specs.Prelude.{◌≡◌};
-ghost use Rattle.manifest_files.specs.PartitionKinds.{kind_given, kind_of_column, kind_of_field, carries_part};
+ghost use Rattle.row_values.specs.Columns.{kind_of_column};
+ghost use Rattle.manifest_files.specs.PartitionKinds.{kind_given, kind_of_field, carries_part};
 
 use avro_binary::Schema;
 use avro_rows::carries;
-use row_values::{Column, Kind, PartField, Transform};
+use row_values::{Column, Kind, PartField, Transform, kind_of_column};
 
 /// The kind of the values that a transform gives of values of a kind.
 fn kind_given(transform: Transform, kind: Kind) -> Option<Kind>
@@ -18,21 +19,6 @@ fn kind_given(transform: Transform, kind: Kind) -> Option<Kind>
         Transform::Day => Some(Kind::Date),
         Transform::Void => None,
     }
-}
-
-/// The kind of the column with the id.
-#[tactic(auto, unfolding(crate::specs::PartitionKinds::kind_of_column))]
-fn kind_of_column(id: i32, columns: &[Column]) -> Option<Kind>
-    ensures { result ≡ kind_of_column id columns.now }
-{
-    let mut rest = columns;
-    while let [column, after @ ..] = rest {
-        if column.id == id {
-            return Some(column.kind);
-        }
-        rest = after;
-    }
-    None
 }
 
 /// The kind of a partition field's values.

@@ -200,7 +200,17 @@ module _ (places : FilePlaces) (file : List Datum) where
 counts_rest : (partitions : Result (List Value) ManifestFault) (counts sizes : Result ℕ ManifestFault)
     (whole : Result ⊤ ManifestFault) (all_ids : Result (List ℤ) ManifestFault) (content : Content) (path : List ℕ)
     (is_avro : Bool) (referenced : Option (List ℕ)) (parts : FileParts)
-    → (partitions >>= λ partition. counts >>= λ count. sizes >>= λ size. whole >>= λ done. all_ids >>= λ equality_ids. Ok (record { content = content; path = path; is_avro = is_avro; partition = partition; count = count; size = size; equality_ids = equality_ids; referenced = referenced })) ≡ Ok parts → (counts ≡ Ok parts.count) × (sizes ≡ Ok parts.size)
+    → (partitions >>= λ partition. counts >>= λ count. sizes >>= λ size. whole >>= λ done. all_ids >>= λ equality_ids. Ok
+    (record {
+      content = content;
+      path = path;
+      is_avro = is_avro;
+      partition = partition;
+      count = count;
+      size = size;
+      equality_ids = equality_ids;
+      referenced = referenced;
+    })) ≡ Ok parts → (counts ≡ Ok parts.count) × (sizes ≡ Ok parts.size)
 counts_rest (Ok partition) (Ok count) (Ok size) (Ok done) (Ok ids) content path is_avro referenced parts h = (cc, cc)
 counts_rest (Err e) counts sizes whole all_ids content path is_avro referenced parts h = absurd cc
 counts_rest (Ok partition) (Err e) sizes whole all_ids content path is_avro referenced parts h = absurd cc
@@ -215,7 +225,9 @@ file_counts places values parts h =
     let content = two_steps (content_at places.content values) _ parts h in
     let path = two_steps (needed_text (pos 100) places.path values) _ parts content.2 in
     let format = two_steps (format_at places.format values) _ parts path.2 in
-    counts_rest (partition_at places values) (needed_count (pos 103) places.count values) (needed_count (pos 104) places.size values) (whole_maps places values) (ids_from [] (items_at values places.equality_ids)) content.0 path.0 format.0 (option_and_then as_text (option_and_then text_in (present_at values places.referenced))) parts format.2
+    counts_rest (partition_at places values) (needed_count (pos 103) places.count values) (needed_count (pos 104) places.size values)
+    (whole_maps places values) (ids_from [] (items_at values places.equality_ids)) content.0 path.0 format.0
+    (option_and_then as_text (option_and_then text_in (present_at values places.referenced))) parts format.2
 
 some_of : {X : Type 0} (e : ManifestFault) (o : Option X) (x : X) → or_fault e o ≡ Ok x → o ≡ Some x
 some_of e (Some y) x h = cc

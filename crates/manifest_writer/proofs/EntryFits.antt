@@ -87,9 +87,16 @@ referenced_fits (Some text) h = some_fits text_shape (datum.Text text) (text_fit
 file_fits : (spec : Spec) (schema : TableSchema) (entry : Entry) → HasFile entry
     → Fits (file_shape (plan_shapes (spec_plans spec schema))) (datum.Record (file_values spec schema entry))
 file_fits spec schema entry (path, stats, ids, referenced) = record_fits _ _
-    (more_fields _ _ _ _ (content_fits entry.content) (more_fields _ _ _ _ (text_fits entry.path path) (more_fields _ _ _ _ (text_fits (codes "AVRO") (is_text (codes "AVRO") refl)) (more_fields _ _ _ _ (record_fits (plan_shapes (spec_plans spec schema)) (part_datums schema.columns spec.fields entry.partition) (parts_fit schema.columns (are_names spec.fields) spec.fields entry.partition))
+    (more_fields _ _ _ _ (content_fits entry.content)
+    (more_fields _ _ _ _ (text_fits entry.path path)
+    (more_fields _ _ _ _ (text_fits (codes "AVRO") (is_text (codes "AVRO") refl))
+    (more_fields _ _ _ _ (record_fits (plan_shapes (spec_plans spec schema)) (part_datums schema.columns spec.fields entry.partition)
+    (parts_fit schema.columns (are_names spec.fields) spec.fields entry.partition))
     (more_fields _ _ _ _ (count_by (nat_lt entry.count (2 ^ 63)) entry.count refl) (more_fields _ _ _ _ (count_by (nat_lt entry.size (2 ^ 63)) entry.size refl)
-    (more_fields _ _ _ _ (fact_value_fits fact.Values entry.stats.columns stats) (more_fields _ _ _ _ (fact_value_fits fact.Nulls entry.stats.columns stats) (more_fields _ _ _ _ (fact_value_fits fact.Lower entry.stats.columns stats) (more_fields _ _ _ _ (fact_value_fits fact.Upper entry.stats.columns stats)
+    (more_fields _ _ _ _ (fact_value_fits fact.Values entry.stats.columns stats)
+    (more_fields _ _ _ _ (fact_value_fits fact.Nulls entry.stats.columns stats)
+    (more_fields _ _ _ _ (fact_value_fits fact.Lower entry.stats.columns stats)
+    (more_fields _ _ _ _ (fact_value_fits fact.Upper entry.stats.columns stats)
     (more_fields _ _ _ _ (ids_value_fits entry.equality_ids ids) (more_fields _ _ _ _ (referenced_fits entry.referenced referenced) no_field))))))))))))
 
 entry_fits : (spec : Spec) (schema : TableSchema) (entry : Entry) → IsEntry entry

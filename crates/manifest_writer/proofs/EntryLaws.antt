@@ -82,7 +82,10 @@ numbers_so : (row : ManifestRow) (entry : Entry) (b : Bool) → nat_eq entry.sta
     (cond b None (Some entry.file_seq))) ≡ Ok (numbers_by b row entry)
 unfolding kept
 numbers_so row entry true e = ap (λ (b : Bool). cond b (let r : Result Numbers ManifestFault = Ok (numbers_by true row entry) in r) (kept (raw_by entry.status (Some entry.snapshot) None None))) e
-numbers_so row entry false e = ap (λ (b : Bool). cond b (let r : Result Numbers ManifestFault = Ok (Rattle.manifest_files.specs.Inheritance.inherited row (raw_by entry.status (Some entry.snapshot) (Some entry.seq) (Some entry.file_seq))) in r) (kept (raw_by entry.status (Some entry.snapshot) (Some entry.seq) (Some entry.file_seq)))) e
+numbers_so row entry false e = ap
+    (λ (b : Bool). cond b (let r : Result Numbers ManifestFault = Ok
+    (Rattle.manifest_files.specs.Inheritance.inherited row (raw_by entry.status (Some entry.snapshot) (Some entry.seq) (Some entry.file_seq))) in r)
+    (kept (raw_by entry.status (Some entry.snapshot) (Some entry.seq) (Some entry.file_seq)))) e
 
 numbers_from : (row : ManifestRow) (entry : Entry) (a b c : Option ℤ) → a ≡ Some entry.snapshot
     → b ≡ own_number entry.status entry.seq → c ≡ own_number entry.status entry.file_seq
@@ -235,13 +238,24 @@ entry_again row spec schema entry (numbers, file) kinds h =
     let rise = first (rises entry.stats.columns) (list_all tells entry.stats.columns) stats in
     let values : List Datum = number_values entry ++ datum.Record (file_values spec schema entry) ∷ [] in
     let places = entry_found (found_parts spec schema) in
-    goes (status_at places.status (values_of (datum.Record values))) _ entry.status _ (ap (status_at places.status) (values_is values) ∙ ap (λ (o : Option ℤ). or_fault (fault.Kind (pos 0)) o >>= status_of) (int_again (status_number entry.status)) ∙ status_again entry.status (first (nat_lt entry.status 3) _ is))
-    (goes (numbered row (raw_numbers places entry.status (values_of (datum.Record values)))) _ (numbers_by (nat_eq entry.status 1) row entry) _ (ap (λ (xs : List Datum). numbered row (raw_numbers places entry.status xs)) (values_is values) ∙ numbers_from row entry _ _ _ (optional_long_again (Some entry.snapshot)) (optional_long_again (own_number entry.status entry.seq)) (optional_long_again (own_number entry.status entry.file_seq)))
-    (goes (or_fault (fault.Kind (pos 2)) (present (values_of (datum.Record values)) places.data_file)) _ (datum.Record (file_values spec schema entry)) _ (ap (λ (xs : List Datum). or_fault (fault.Kind (pos 2)) (present xs 4)) (values_is values) ∙ ap (or_fault (fault.Kind (pos 2))) (record_there (file_values spec schema entry)))
-    (goes (file_parts places.file (values_of (datum.Record (file_values spec schema entry)))) _ (parts_of entry) _ (ap (file_parts places.file) (values_is (file_values spec schema entry)) ∙ file_again spec schema entry file kinds parts (first (nat_lt entry.count (2 ^ 63)) _ counts) (first (nat_lt entry.size (2 ^ 63)) _ sizes))
+    goes (status_at places.status (values_of (datum.Record values))) _ entry.status _
+    (ap (status_at places.status) (values_is values) ∙ ap (λ (o : Option ℤ). or_fault (fault.Kind (pos 0)) o >>= status_of)
+    (int_again (status_number entry.status)) ∙ status_again entry.status (first (nat_lt entry.status 3) _ is))
+    (goes (numbered row (raw_numbers places entry.status (values_of (datum.Record values)))) _ (numbers_by (nat_eq entry.status 1) row entry) _
+    (ap (λ (xs : List Datum). numbered row (raw_numbers places entry.status xs)) (values_is values)
+    ∙ numbers_from row entry _ _ _ (optional_long_again (Some entry.snapshot)) (optional_long_again (own_number entry.status entry.seq))
+    (optional_long_again (own_number entry.status entry.file_seq)))
+    (goes (or_fault (fault.Kind (pos 2)) (present (values_of (datum.Record values)) places.data_file)) _
+    (datum.Record (file_values spec schema entry)) _ (ap (λ (xs : List Datum). or_fault (fault.Kind (pos 2)) (present xs 4)) (values_is values)
+    ∙ ap (or_fault (fault.Kind (pos 2))) (record_there (file_values spec schema entry)))
+    (goes (file_parts places.file (values_of (datum.Record (file_values spec schema entry)))) _ (parts_of entry) _
+    (ap (file_parts places.file) (values_is (file_values spec schema entry))
+    ∙ file_again spec schema entry file kinds parts (first (nat_lt entry.count (2 ^ 63)) _ counts) (first (nat_lt entry.size (2 ^ 63)) _ sizes))
     (goes (allowed entry.status places.file (parts_of entry) (values_of (datum.Record (file_values spec schema entry)))) _ tt _ (ap (allowed entry.status places.file (parts_of entry)) (values_is (file_values spec schema entry)) ∙ entry_allowed spec schema entry rise)
     (same_entry_by row entry (nat_eq entry.status 1) spec.id _ (same_id entry.spec spec.id (first (int_eq entry.spec spec.id) _ of_spec)) (ap (λ (xs : List Datum). stats_from places.file xs [] (known_columns schema.columns)) (values_is (file_values spec schema entry))
-    ∙ stats_again places.file (file_values spec schema entry) (known_columns schema.columns) entry.stats.columns (has_facts spec schema entry rise) (known_kinds schema.columns kinds) (known_rising schema.columns) rise (second (rises entry.stats.columns) (list_all tells entry.stats.columns) stats) (second (nat_lt entry.size (2 ^ 63)) _ sizes)))))))
+    ∙ stats_again places.file (file_values spec schema entry) (known_columns schema.columns) entry.stats.columns (has_facts spec schema entry rise)
+    (known_kinds schema.columns kinds) (known_rising schema.columns) rise
+    (second (rises entry.stats.columns) (list_all tells entry.stats.columns) stats) (second (nat_lt entry.size (2 ^ 63)) _ sizes)))))))
 
 entries_again : (row : ManifestRow) (spec : Spec) (schema : TableSchema) (earlier entries : List Entry)
     → AllByRecursion IsEntry entries → are_kinds schema.columns ≡ true → list_all (is_written spec schema) entries ≡ true
@@ -260,13 +274,18 @@ file entries spec schema = record { schema = entry_types spec schema; meta = man
 
 places_found : (spec : Spec) (schema : TableSchema) → IsWritableSpec spec
     → entry_places schema.columns spec.fields (fields_of (entry_types spec schema)) ≡ Ok (entry_found (found_parts spec schema))
-places_found spec schema writable = ap (λ (s : Schema). entry_places schema.columns spec.fields (fields_of s)) (sym (entry_types_is spec schema)) ∙ entry_places_is schema.columns spec.fields (spec_plans spec schema) (found_parts spec schema) (all_found schema.columns (are_names spec.fields) spec.fields writable.apart)
+places_found spec schema writable = ap (λ (s : Schema). entry_places schema.columns spec.fields (fields_of s)) (sym (entry_types_is spec schema))
+    ∙ entry_places_is schema.columns spec.fields (spec_plans spec schema) (found_parts spec schema)
+    (all_found schema.columns (are_names spec.fields) spec.fields writable.apart)
 
 pub manifest_again : (entries : List Entry) (spec : Spec) (schema : TableSchema) (row : ManifestRow)
     → AllByRecursion IsEntry entries → CanBeWritten entries spec schema → length (manifest_text entries spec schema) < 2 ^ 63
     → entries_of (manifest_text entries spec schema) row spec schema ≡ Ok (map (as_read row) entries)
 unfolding entries_of
 manifest_again entries spec schema row fits can short =
-    let read : container_of (manifest_text entries spec schema) ≡ Ok (file entries spec schema) = text_read_again (file entries spec schema) (entries_fit spec schema entries fits) (are_meta entries spec schema) (schema_read (entry_types spec schema) (entry_has_text spec schema can.kinds can.fields)) (entry_takes_bytes spec schema) (entry_items_take_bytes spec schema) short in
+    let read : container_of (manifest_text entries spec schema) ≡ Ok (file entries spec schema) = text_read_again (file entries spec schema)
+    (entries_fit spec schema entries fits) (are_meta entries spec schema)
+    (schema_read (entry_types spec schema) (entry_has_text spec schema can.kinds can.fields)) (entry_takes_bytes spec schema)
+    (entry_items_take_bytes spec schema) short in
     goes (fault_as fault.Container (container_of (manifest_text entries spec schema))) _ (file entries spec schema) _ (ap (fault_as fault.Container) read)
     (goes (entry_places schema.columns spec.fields (fields_of (entry_types spec schema))) _ (entry_found (found_parts spec schema)) _ (places_found spec schema can.fields) (entries_again row spec schema [] entries fits can.kinds can.each))

@@ -186,7 +186,11 @@ later_named begun a b c d =
     ap (λ (o : Option Names). is_some (option_and_then (named_each null_plans) o)) (counts_named (codes "k119_v120") (pos 119) (pos 120) begun a)
     ∙ ap (λ (o : Option Names). is_some (option_and_then (named_each lower_plans) o)) (counts_named (codes "k121_v122") (pos 121) (pos 122) one b1)
     ∙ ap (λ (o : Option Names). is_some (option_and_then (named_each upper_plans) o)) (bounds_named (codes "k126_v127") (pos 126) (pos 127) two c2)
-    ∙ ap (λ (o : Option Names). is_some (option_and_then (named_each (more_plans (pos 135) (codes "equality_ids") (optional_plan (items_plan (pos 136) int_plan)) (more_plans (pos 143) (codes "referenced_data_file") (optional_plan text_plan) no_plans))) o)) (bounds_named (codes "k129_v130") (pos 129) (pos 130) three d3)
+    ∙ ap (λ (o : Option Names). is_some
+    (option_and_then (named_each
+    (more_plans (pos 135) (codes "equality_ids") (optional_plan (items_plan (pos 136) int_plan))
+    (more_plans (pos 143) (codes "referenced_data_file") (optional_plan text_plan) no_plans))) o))
+    (bounds_named (codes "k129_v130") (pos 129) (pos 130) three d3)
 
 whole_some : (o : Option Names) → is_some o ≡ true → is_some (option_and_then (named_each no_plans) o) ≡ true
 whole_some None h = h
@@ -198,7 +202,9 @@ unfolding has_begun
 each_name_once columns keeps parts ids apart =
     whole_some (option_and_then (named_each later_plans) (named_each (part_plans columns keeps parts) base))
     (ap (λ (o : Option Names). is_some (option_and_then (named_each later_plans) o)) (parts_named columns keeps parts base ids apart (all_free parts))
-    ∙ later_named (after_parts columns parts base) (no_other (codes "k119_v120") columns parts base (λ id. refl) refl) (no_other (codes "k121_v122") columns parts base (λ id. refl) refl) (no_other (codes "k126_v127") columns parts base (λ id. refl) refl) (no_other (codes "k129_v130") columns parts base (λ id. refl) refl))
+    ∙ later_named (after_parts columns parts base) (no_other (codes "k119_v120") columns parts base (λ id. refl) refl)
+    (no_other (codes "k121_v122") columns parts base (λ id. refl) refl) (no_other (codes "k126_v127") columns parts base (λ id. refl) refl)
+    (no_other (codes "k129_v130") columns parts base (λ id. refl) refl))
 
 -- ---- room
 
@@ -237,7 +243,10 @@ entry_has_text spec schema kinds writable =
     let nodes_is : nodes_of ps ≡ 3 * length spec.fields = parts_nodes schema.columns keeps spec.fields in
     let few_fields : length spec.fields ≤ 1000 = writable.few in
     ap has_text (sym (entry_types_is spec schema))
-    ∙ plan_has_text (entry_plan ps) (entry_plain ps (parts_plain schema.columns keeps spec.fields (λ h. h) writable.ids (kinds_sound schema.columns spec.fields kinds))) (each_name_once schema.columns keeps spec.fields writable.ids writable.apart) (whole_within ps (parts_within schema.columns keeps spec.fields 27)) (omega arith)
+    ∙ plan_has_text (entry_plan ps)
+    (entry_plain ps (parts_plain schema.columns keeps spec.fields (λ h. h) writable.ids (kinds_sound schema.columns spec.fields kinds)))
+    (each_name_once schema.columns keeps spec.fields writable.ids writable.apart)
+    (whole_within ps (parts_within schema.columns keeps spec.fields 27)) (omega arith)
 
 -- ---- bytes
 

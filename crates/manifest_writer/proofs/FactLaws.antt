@@ -214,7 +214,9 @@ under_there f place id stats items h is = ap (λ (xs : List Datum). value_under 
 
 facts_read : (places : FilePlaces) (file : List Datum) (stats : List ColumnStats) (column : KnownColumn)
     → HasFacts places file stats → facts_of places file column ≡ read_of column (pick column.id stats)
-facts_read places file stats column has = same_facts (read_of column (pick column.id stats)) column.id _ _ _ _ refl (ap (λ (o : Option Datum). option_and_then natural_of (option_and_then long_in o)) (has.values column.id)) (ap (λ (o : Option Datum). option_and_then natural_of (option_and_then long_in o)) (has.nulls column.id))
+facts_read places file stats column has = same_facts (read_of column (pick column.id stats)) column.id _ _ _ _ refl
+    (ap (λ (o : Option Datum). option_and_then natural_of (option_and_then long_in o)) (has.values column.id))
+    (ap (λ (o : Option Datum). option_and_then natural_of (option_and_then long_in o)) (has.nulls column.id))
     (ap (λ (o : Option Datum). option_and_then (bound_of column.kind) (option_and_then bytes_in o)) (has.lower column.id)) (ap (λ (o : Option Datum). option_and_then (bound_of column.kind) (option_and_then bytes_in o)) (has.upper column.id))
 
 -- ---- the facts of all columns

@@ -34,7 +34,9 @@ columns_are : (known : List KnownColumn) (columns : List Column) → known_are k
     → known_are (with_columns known columns) ≡ true
 unfolding with_columns
 columns_are known [] all h = all
-columns_are known (column ∷ columns) all h = columns_are (with_column (record { id = column.id; kind = column.kind }) known) columns (with_are (record { id = column.id; kind = column.kind }) known (first (is_kind column.kind) (are_kinds columns) h) all) (second (is_kind column.kind) (are_kinds columns) h)
+columns_are known (column ∷ columns) all h = columns_are (with_column (record { id = column.id; kind = column.kind }) known) columns
+    (with_are (record { id = column.id; kind = column.kind }) known (first (is_kind column.kind) (are_kinds columns) h) all)
+    (second (is_kind column.kind) (are_kinds columns) h)
 
 pub known_kinds : (columns : List Column) → are_kinds columns ≡ true → list_all (λ (column : KnownColumn). is_kind column.kind) (known_columns columns) ≡ true
 known_kinds columns h = with_are path_column (with_column position_column (with_columns [] columns)) refl (with_are position_column (with_columns [] columns) refl (columns_are [] columns refl h))

@@ -47,7 +47,12 @@ summary_again : (s : Summary) → has_bounds s ≡ true → summary_of summaries
 unfolding summary_of
 summary_again s h =
     goes (or_fault (fault.Kind (pos 507)) (present_in (datum_of_summary s))) _ (datum_of_summary s) _ (ap (or_fault (fault.Kind (pos 507))) (record_there (summary_values s)))
-    (ap (λ (values : List Datum). or_fault (fault.Kind (pos 509)) (option_and_then boolean_in (present values 0)) >>= λ contains_null. Ok (record { contains_null = contains_null; lower = Rattle.manifest_files.specs.Lists.bound_at (Some 1) values; upper = Rattle.manifest_files.specs.Lists.bound_at (Some 2) values })) (values_is (summary_values s))
+    (ap (λ (values : List Datum). or_fault (fault.Kind (pos 509)) (option_and_then boolean_in (present values 0)) >>= λ contains_null. Ok
+    (record {
+      contains_null = contains_null;
+      lower = Rattle.manifest_files.specs.Lists.bound_at (Some 1) values;
+      upper = Rattle.manifest_files.specs.Lists.bound_at (Some 2) values;
+    })) (values_is (summary_values s))
     ∙ goes (or_fault (fault.Kind (pos 509)) (option_and_then boolean_in (present_in (datum.Boolean s.contains_null)))) _ s.contains_null _ (ap (or_fault (fault.Kind (pos 509))) (boolean_again s.contains_null))
     (same_summary s _ _ (bound_again s.lower (first (is_bound s.lower) (is_bound s.upper) h)) (bound_again s.upper (second (is_bound s.lower) (is_bound s.upper) h))))
 
@@ -85,7 +90,23 @@ head_again row fits =
 same_row : (row : ManifestRow) (a b c d e f g : Option ℤ) → a ≡ row.manifest_length → b ≡ row.added_files_count
     → c ≡ row.existing_files_count → d ≡ row.deleted_files_count → e ≡ row.added_rows_count → f ≡ row.existing_rows_count
     → g ≡ row.deleted_rows_count
-    → (let r : Result ManifestRow ManifestFault = Ok (record { manifest_path = row.manifest_path; manifest_length = a; partition_spec_id = row.partition_spec_id; content = row.content; sequence_number = row.sequence_number; min_sequence_number = row.min_sequence_number; added_snapshot_id = row.added_snapshot_id; added_files_count = b; existing_files_count = c; deleted_files_count = d; added_rows_count = e; existing_rows_count = f; deleted_rows_count = g; partitions = row.partitions }) in r) ≡ Ok row
+    → (let r : Result ManifestRow ManifestFault = Ok
+    (record {
+      manifest_path = row.manifest_path;
+      manifest_length = a;
+      partition_spec_id = row.partition_spec_id;
+      content = row.content;
+      sequence_number = row.sequence_number;
+      min_sequence_number = row.min_sequence_number;
+      added_snapshot_id = row.added_snapshot_id;
+      added_files_count = b;
+      existing_files_count = c;
+      deleted_files_count = d;
+      added_rows_count = e;
+      existing_rows_count = f;
+      deleted_rows_count = g;
+      partitions = row.partitions;
+    }) in r) ≡ Ok row
 same_row row a b c d e f g ha hb hc hd he hf hg = rw (ha, hb, hc, hd, he, hf, hg) refl
 
 partitions_there : (row : ManifestRow) → items_at (values row) (Some 13) ≡ map datum_of_summary row.partitions

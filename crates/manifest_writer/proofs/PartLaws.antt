@@ -28,7 +28,8 @@ use Rattle.manifest_files.specs.declared.manifest_fault.ManifestFault.TheVariant
 use Rattle.manifest_files.specs.declared.places.PartPlace.{PartPlace}
 use Rattle.manifest_files.specs.Datums.{present_in}
 use Rattle.manifest_files.specs.Entries.{part_value, part_values}
-use Rattle.manifest_files.specs.PartitionKinds.{kind_given, kind_of_column, kind_of_field, carries_part}
+use Rattle.row_values.specs.Columns.{kind_of_column}
+use Rattle.manifest_files.specs.PartitionKinds.{kind_given, kind_of_field, carries_part}
 use Rattle.manifest_files.specs.Places.{field_from, part_place, part_places}
 use Rattle.manifest_files.specs.Sound.{is_part, are_parts}
 use Rattle.row_writer.specs.Field.{field}

@@ -24,4 +24,6 @@ abbrev pub meta_pair : List ℕ → List ℕ → MetaPair
 meta_pair key value = record { key = key; value = value }
 
 abbrev pub manifest_meta : List Entry → Spec → TableSchema → List MetaPair
-manifest_meta entries spec schema = meta_pair (codes "schema") (schema_text schema) ∷ meta_pair (codes "schema-id") (signed_decimal schema.id) ∷ meta_pair (codes "partition-spec") (spec_text spec) ∷ meta_pair (codes "partition-spec-id") (signed_decimal spec.id) ∷ meta_pair (codes "format-version") (codes "2") ∷ meta_pair (codes "content") (manifest_content entries) ∷ []
+manifest_meta entries spec schema = meta_pair (codes "schema") (schema_text schema) ∷ meta_pair (codes "schema-id")
+    (signed_decimal schema.id) ∷ meta_pair (codes "partition-spec") (spec_text spec) ∷ meta_pair (codes "partition-spec-id")
+    (signed_decimal spec.id) ∷ meta_pair (codes "format-version") (codes "2") ∷ meta_pair (codes "content") (manifest_content entries) ∷ []

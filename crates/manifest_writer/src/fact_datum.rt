@@ -7,7 +7,7 @@ ghost use Rattle.manifest_writer.specs.Facts.{count_datum, bound_datum, fact_dat
 use crate::fact::Fact;
 use crate::value::{count_number, int_datum};
 use avro_binary::{Datum, Items, Octets};
-use kind_values::{ColumnStats, write_bound};
+use kind_values::{ColumnStats, put_bound};
 use row_values::Value;
 use row_writer::{null_branch, value_branch};
 use std::alloc::{AllocError, Global};
@@ -28,7 +28,7 @@ fn bound_datum(alloc: Global, bound: &Option<Value>) -> Result<Option<Datum>, Al
         None => Ok(None),
         Some(value) => {
             let mut bytes = Vec::new(alloc);
-            write_bound(value, &mut bytes)?;
+            put_bound(value, &mut bytes)?;
             Ok(Some(Datum::Bytes(Octets::from_vec(bytes))))
         }
     }
@@ -55,7 +55,7 @@ fn pair(alloc: Global, key: Datum, datum: Datum) -> Result<Datum, AllocError>
 }
 
 /// Appends a pair for the column, where the fact is known of it.
-fn push_pair(
+fn put_pair(
     alloc: Global,
     fact: Fact,
     facts: &ColumnStats,
@@ -79,7 +79,7 @@ fn pairs_of(alloc: Global, fact: Fact, stats: &[ColumnStats]) -> Result<Vec<Datu
 {
     let mut pairs = Vec::new(alloc);
     for facts in stats {
-        push_pair(alloc, fact, facts, &mut pairs)?;
+        put_pair(alloc, fact, facts, &mut pairs)?;
     }
     Ok(pairs)
 }

@@ -9,3 +9,5 @@ pub use Rattle.plain_types.proofs.ByteOrderLaws.{Tells-texts}
 pub use Rattle.plain_types.proofs.StepLaws.{one_value, two_steps}
 -- Calls that write at the end of a list, one after another.
 pub use Rattle.plain_types.proofs.AppendLaws.{appends_more, front_of_more, front_of_same}
+-- What an answer says of its Ok and of its fault.
+pub use Rattle.plain_types.proofs.AnswerLaws.{err_of, ok_of, told_as, told_err_of, told_ok_of}

@@ -1,3 +1,4 @@
+mod AnswerLaws
 mod AppendLaws
 mod BagLaws
 mod ByteOrderLaws

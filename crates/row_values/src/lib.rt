@@ -15,5 +15,5 @@ pub use kind::Kind;
 pub use partition::{PartField, Spec, Transform};
 pub use plain_types::{Bytes, List, Text};
 pub use row::copy_row;
-pub use schema::{Column, TableSchema};
+pub use schema::{Column, TableSchema, has_id, has_name, kind_of_column};
 pub use value::{Row, Value};

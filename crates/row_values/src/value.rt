@@ -1,4 +1,5 @@
 ghost use Rattle.std.specs.Prelude.{◌≡◌, IfOk};
+ghost use Rattle.row_values.specs.Rows.{is_null};
 
 use plain_types::{Bytes, List, Text};
 use std::alloc::{AllocError, Global};
@@ -21,6 +22,12 @@ pub enum Value {
 }
 
 impl Value {
+    pub fn is_null(&self) -> bool
+        ensures { result ≡ is_null self.now }
+    {
+        matches!(self, Value::Null)
+    }
+
     pub fn copy(&self, alloc: Global) -> Result<Value, AllocError>
         ensures { IfOk result (λ v. v ≡ self.now) }
     {

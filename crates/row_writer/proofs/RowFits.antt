@@ -1,5 +1,5 @@
 -- Rows of the columns fit the type of the rows.
-use Rattle.std.proofs.Common.{◌≡◌, ℕ, List, [], ◌∷◌, map, Bool, true, false, cond, not, ◌&&◌, Some, None, refl, sym, ap, subst, ◌∙◌}
+use Rattle.std.proofs.Common.{◌≡◌, ℕ, List, [], ◌∷◌, map, Bool, true, false, cond, not, Some, None, sym, ap, subst, ◌∙◌}
 use Rattle.std.specs.List.{list_all, AllByRecursion}
 use Rattle.row_values.specs.declared.kind.Kind.{Kind}
 use Rattle.row_values.specs.declared.value.Value.{Value}
@@ -15,7 +15,7 @@ use Rattle.row_writer.proofs.FieldLaws.{none_fits, some_fits, no_field, more_fie
 use Rattle.row_writer.specs.Names.{decimal_name}
 use Rattle.row_writer.specs.RowTypes.{are_names, row_type}
 use Rattle.row_writer.specs.RowDatum.{column_datum, column_datums, row_datum}
-use Rattle.row_writer.proofs.RowPlans.{if_required, column_plan, column_plans, row_plan, row_type_is, row_shape_is}
+use Rattle.row_writer.proofs.RowPlans.{if_required, column_plan, column_plans, row_type_is, row_shape_is}
 
 fits_by : (required null : Bool) (name : List ℕ) (k : Kind) (v : Value) → cond null (not required) (is_value k v) ≡ true
     → Fits (plan_shape (if_required required (kind_plan name k)))

@@ -1,5 +1,5 @@
 -- The type of the rows has a text, and each row takes a byte.
-use Rattle.std.proofs.Common.{◌≡◌, ℕ, suc, ◌+◌, ◌*◌, ◌<◌, ◌≤◌, ℤ, List, [], ◌∷◌, ◌++◌, length, Bool, true, false, cond, not, ◌&&◌, ◌||◌, is_some, Option, Some, option_and_then, refl, sym, ap, ◌∙◌, arith}
+use Rattle.std.proofs.Common.{◌≡◌, ℕ, suc, ◌*◌, ◌<◌, ◌≤◌, ℤ, List, [], ◌∷◌, ◌++◌, length, Bool, true, false, cond, not, ◌&&◌, ◌||◌, is_some, Option, Some, option_and_then, refl, sym, ap, ◌∙◌, arith}
 use Rattle.std.specs.Prelude.{codes}
 use Rattle.std.specs.List.{list_all}
 use Rattle.std.specs.Ordering.{int_eq}
@@ -16,14 +16,15 @@ use Rattle.row_writer.specs.Names.{is_name, decimal_name}
 use Rattle.row_writer.proofs.Tests.{first, second, not_false}
 use Rattle.row_writer.proofs.Begun.{begun_append}
 use Rattle.row_writer.proofs.Ascii.{name_ascii, id_ascii, decimal_name_ascii}
-use Rattle.row_writer.proofs.Plans.{Plan, optional_plan, type_of}
 use Rattle.row_writer.proofs.PlanNames.{named, named_each, plain_names, plain_fields}
 use Rattle.row_writer.proofs.PlanRoom.{nodes, nodes_of, within, all_within}
 use Rattle.row_writer.proofs.PlanText.{plan_has_text}
 use Rattle.row_writer.proofs.KindPlans.{kind_plan, kind_nodes, kind_within, plan_shape, plan_shapes}
 use Rattle.row_writer.proofs.KindText.{kind_plain, after_kind, kind_named, kind_takes_bytes, kind_items}
-use Rattle.row_writer.specs.RowTypes.{has_name, are_names, column_name, row_type}
-use Rattle.row_writer.specs.Readable.{has_id, are_apart, AreColumns}
+use Rattle.row_values.specs.Columns.{has_name}
+use Rattle.row_writer.specs.RowTypes.{are_names, column_name, row_type}
+use Rattle.row_values.specs.Columns.{has_id}
+use Rattle.row_writer.specs.Readable.{are_apart, AreColumns}
 use Rattle.row_writer.proofs.ColumnNames.{names_differ}
 use Rattle.row_writer.proofs.Apart.{no_column_here, turned}
 use Rattle.row_writer.proofs.RowPlans.{if_required, column_plan, column_plans, row_plan, row_type_is, row_shape_is}

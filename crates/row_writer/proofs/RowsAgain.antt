@@ -1,18 +1,18 @@
 -- Rows that are written are read again.
-use Rattle.std.proofs.Common.{◌≡◌, ℕ, suc, ◌+◌, ℤ, List, [], ◌∷◌, ◌++◌, map, length, Bool, true, false, cond, not, ◌&&◌, Option, Some, None, option_and_then, Result, Ok, Err, refl, sym, ap, ◌∙◌, append_assoc, arith}
+use Rattle.std.proofs.Common.{◌≡◌, ℕ, suc, ◌+◌, ℤ, List, [], ◌∷◌, ◌++◌, map, length, Bool, true, false, cond, not, Option, Some, None, Result, Ok, refl, sym, ap, ◌∙◌, append_assoc, arith}
 use Rattle.std.specs.Prelude.{slice_get}
 use Rattle.std.specs.List.{list_all}
 use Rattle.std.proofs.lemmas.List.{append-nil, length-append}
 use Rattle.std.proofs.lemmas.Option.{slice_get-get_or}
 use Rattle.std.proofs.Math.Seq.{get_or-append_seam}
-use Rattle.plain_types.specs.Steps.{◌>>=◌, or_fault, by_option}
+use Rattle.plain_types.specs.Steps.{or_fault, by_option}
 use Rattle.row_values.specs.declared.kind.Kind.{Kind}
 use Rattle.row_values.specs.declared.value.Value.{Value}
 use Rattle.row_values.specs.declared.value.Value.TheVariants as value
 use Rattle.row_values.specs.declared.schema.Column.{Column}
 use Rattle.row_values.specs.Rows.{is_value, is_null, is_held, is_row}
 use Rattle.kind_values.specs.Bounds.{is_kind}
-use Rattle.avro_binary.specs.declared.datum.Datum.{Datum, out-Datum}
+use Rattle.avro_binary.specs.declared.datum.Datum.{Datum}
 use Rattle.avro_binary.specs.declared.datum.Datum.TheVariants as datum
 use Rattle.avro_binary.specs.declared.schema.Field.{Field}
 use Rattle.avro_rows.specs.declared.row_fault.RowFault.{RowFault}

@@ -1,5 +1,5 @@
 -- Where the columns stand in the rows that are written.
-use Rattle.std.proofs.Common.{◌≡◌, ℕ, suc, ◌+◌, ℤ, List, [], ◌∷◌, ◌++◌, length, Bool, true, false, cond, not, ◌&&◌, ◌||◌, Some, Result, Ok, Err, refl, sym, ap, ◌∙◌, append_assoc, arith}
+use Rattle.std.proofs.Common.{◌≡◌, ℕ, suc, ◌+◌, ℤ, List, [], ◌∷◌, ◌++◌, length, Bool, true, false, cond, not, ◌&&◌, Some, Result, Ok, Err, refl, sym, ap, ◌∙◌, append_assoc, arith}
 use Rattle.std.specs.Ordering.{int_eq}
 use Rattle.std.specs.List.{list_all}
 use Rattle.std.proofs.lemmas.Bool.Decides.{nat_tests}
@@ -21,7 +21,8 @@ use Rattle.row_writer.proofs.KindPlans.{kind_plan}
 use Rattle.row_writer.proofs.KindLaws.{kind_carried, optional_carried}
 use Rattle.row_writer.specs.Names.{decimal_name}
 use Rattle.row_writer.specs.RowTypes.{column_name}
-use Rattle.row_writer.specs.Readable.{has_id, are_apart}
+use Rattle.row_values.specs.Columns.{has_id}
+use Rattle.row_writer.specs.Readable.{are_apart}
 use Rattle.row_writer.proofs.Apart.{no_column_here, turned}
 use Rattle.row_writer.proofs.RowPlans.{if_required, column_plan, column_plans}
 

@@ -1,13 +1,10 @@
 -- Columns whose rows are read again, as those of a table's schema are.
-use Rattle.std.specs.Prelude.{◌≤◌, ◌<◌, ℤ, Bool, true, not, ◌&&◌, List, [], ◌∷◌, length, Some, IsTrue}
-use Rattle.std.specs.Ordering.{int_eq}
-use Rattle.std.specs.List.{list_all, list_any}
+use Rattle.std.specs.Prelude.{◌≤◌, ◌<◌, Bool, true, not, ◌&&◌, List, [], ◌∷◌, length, Some, IsTrue}
+use Rattle.std.specs.List.{list_all}
+use Rattle.row_values.specs.Columns.{has_id}
 use Rattle.row_values.specs.declared.schema.Column.{Column}
 use Rattle.kind_values.specs.Bounds.{is_kind}
 use Rattle.avro_binary.specs.SchemaOnce.{is_id}
-
-abbrev pub has_id : ℤ → List Column → Bool
-has_id id columns = list_any (λ column. int_eq column.id id) columns
 
 -- no two columns have one id
 unfoldable pub are_apart : List Column → Bool

@@ -1,8 +1,7 @@
 -- The type of the rows of a data file (Iceberg specification, Appendix A, "Avro"; Avro 1.11.1, "Names"). Fields are found by
 -- their ids; a name that Avro doesn't allow would make the file unreadable to others.
 use Rattle.std.specs.Prelude.{ℕ, Bool, true, not, ◌&&◌, if◌then◌else◌, List, [], ◌∷◌, map, codes}
-use Rattle.std.specs.List.{list_any}
-use Rattle.std.specs.Str.{bytes_eq}
+use Rattle.row_values.specs.Columns.{has_name}
 use Rattle.row_values.specs.declared.schema.Column.{Column}
 use Rattle.avro_binary.specs.declared.schema.Field.{Field}
 use Rattle.avro_binary.specs.declared.schema.Schema.{Schema}
@@ -11,9 +10,6 @@ use Rattle.row_writer.specs.KindTypes.{kind_type}
 use Rattle.row_writer.specs.Names.{is_name, id_name, decimal_name}
 
 -- ---- names
-
-abbrev pub has_name : List ℕ → List Column → Bool
-has_name name columns = list_any (λ column. bytes_eq column.name name) columns
 
 -- each column has a name of Avro, and no two have one name
 unfoldable pub are_names : List Column → Bool

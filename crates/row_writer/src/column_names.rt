@@ -1,31 +1,12 @@
 //! The names of the fields.
 ghost use Rattle.std.specs.Prelude.{◌≡◌, IfOk};
-ghost use Rattle.std.specs.Str.{bytes_eq};
-ghost use Rattle.row_writer.specs.RowTypes.{has_name, are_names, column_name};
+ghost use Rattle.row_values.specs.Columns.{has_name};
+ghost use Rattle.row_writer.specs.RowTypes.{are_names, column_name};
 
 use crate::names::{id_name, is_name};
 use avro_binary::Octets;
-use row_values::Column;
+use row_values::{Column, has_name};
 use std::alloc::{AllocError, Global};
-
-fn is_same(name: &[u8], other: &[u8]) -> bool
-    ensures { result ≡ bytes_eq name.now other.now }
-{
-    name == other
-}
-
-fn has_name(name: &[u8], columns: &[Column]) -> bool
-    ensures { result ≡ has_name name.now columns.now }
-{
-    let mut rest = columns;
-    while let [column, after @ ..] = rest {
-        if is_same(column.name.as_bytes(), name) {
-            return true;
-        }
-        rest = after;
-    }
-    false
-}
 
 /// Whether each column has a name of Avro of its own.
 #[tactic(auto, unfolding(crate::specs::RowTypes::are_names))]
@@ -34,7 +15,7 @@ pub(crate) fn are_names(columns: &[Column]) -> bool
 {
     let mut rest = columns;
     while let [column, after @ ..] = rest {
-        if !is_name(column.name.as_bytes()) || has_name(column.name.as_bytes(), after) {
+        if !is_name(column.name.as_bytes()) || has_name(column.name.as_str(), after) {
             return false;
         }
         rest = after;

@@ -1,24 +1,15 @@
 //! Whether values are rows of columns.
 ghost use Rattle.std.specs.Prelude.{◌≡◌};
 ghost use Rattle.std.specs.List.{list_all};
-ghost use Rattle.row_values.specs.Rows.{is_null, is_held, is_row};
+ghost use Rattle.row_values.specs.Rows.{is_held, is_row};
 
 use kind_values::is_value;
 use row_values::{Column, Row, Value};
 
-fn is_null(value: &Value) -> bool
-    ensures { result ≡ is_null value.now }
-{
-    match value {
-        Value::Null => true,
-        _ => false,
-    }
-}
-
 fn is_held(column: &Column, value: &Value) -> bool
     ensures { result ≡ is_held column.now value.now }
 {
-    if is_null(value) {
+    if value.is_null() {
         !column.required
     } else {
         is_value(column.kind, value)

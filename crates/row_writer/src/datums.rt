@@ -4,7 +4,7 @@ ghost use Rattle.row_writer.specs.KindDatum.{amount_size, value_datum, optional}
 
 use crate::kinds::decimal_size;
 use avro_binary::{Boxed, Datum, Octets};
-use kind_values::write_signed_in;
+use kind_values::put_signed_in;
 use row_values::{Kind, Value};
 use std::alloc::{AllocError, Global};
 
@@ -21,7 +21,7 @@ fn amount_datum(alloc: Global, kind: Kind, unscaled: i128) -> Result<Datum, Allo
     ensures { IfOk result (λ d. d ≡ value_datum kind (Value.Decimal unscaled 0)) }
 {
     let mut bytes = Vec::new(alloc);
-    write_signed_in(amount_size(kind), unscaled, &mut bytes)?;
+    put_signed_in(amount_size(kind), unscaled, &mut bytes)?;
     Ok(Datum::Fixed(Octets::from_vec(bytes)))
 }
 

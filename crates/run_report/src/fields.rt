@@ -8,19 +8,19 @@ use row_values::Value;
 use std::alloc::{AllocError, Global};
 
 /// Appends the field of the value: NULL is `\N`, and a text that begins with a backslash has one more.
-pub fn push_field(alloc: Global, field: &mut Vec<u8>, value: &Value) -> Result<(), AllocError>
+pub fn put_field(alloc: Global, field: &mut Vec<u8>, value: &Value) -> Result<(), AllocError>
     ensures { Appends field.old.items field.new.items (field_of value.now) result }
 {
     match value {
         Value::Null => field.extend_from_slice(b"\\N"),
         Value::Bool(b) => field.extend_from_slice(bool_text(*b)),
-        Value::Int(n) => push_number(alloc, field, i128::from(*n)),
-        Value::Long(n) => push_number(alloc, field, i128::from(*n)),
-        Value::Date(days) => push_number(alloc, field, i128::from(*days)),
-        Value::Timestamp(micros) => push_number(alloc, field, i128::from(*micros)),
-        Value::Decimal { unscaled, .. } => push_number(alloc, field, *unscaled),
-        Value::Text(text) => push_escaped(field, text.as_bytes()),
-        Value::Bytes(bytes) => push_hexadecimal(field, bytes.as_slice()),
+        Value::Int(n) => put_number(alloc, field, i128::from(*n)),
+        Value::Long(n) => put_number(alloc, field, i128::from(*n)),
+        Value::Date(days) => put_number(alloc, field, i128::from(*days)),
+        Value::Timestamp(micros) => put_number(alloc, field, i128::from(*micros)),
+        Value::Decimal { unscaled, .. } => put_number(alloc, field, *unscaled),
+        Value::Text(text) => put_escaped(field, text.as_bytes()),
+        Value::Bytes(bytes) => put_hexadecimal(field, bytes.as_slice()),
     }
 }
 
@@ -30,14 +30,14 @@ fn bool_text(b: bool) -> &'static [u8]
     if b { b"true" } else { b"false" }
 }
 
-fn push_number(alloc: Global, field: &mut Vec<u8>, number: i128) -> Result<(), AllocError>
+fn put_number(alloc: Global, field: &mut Vec<u8>, number: i128) -> Result<(), AllocError>
     ensures { Appends field.old.items field.new.items (signed_decimal number) result }
 {
     let text = format!(in alloc; "{number}")?;
     field.extend_from_slice(text.as_bytes())
 }
 
-fn push_escaped(field: &mut Vec<u8>, text: &[u8]) -> Result<(), AllocError>
+fn put_escaped(field: &mut Vec<u8>, text: &[u8]) -> Result<(), AllocError>
     ensures { Appends field.old.items field.new.items (escaped_text text.now) result }
 {
     if let [b'\\', ..] = text {
@@ -46,16 +46,16 @@ fn push_escaped(field: &mut Vec<u8>, text: &[u8]) -> Result<(), AllocError>
     field.extend_from_slice(text)
 }
 
-fn push_hexadecimal(field: &mut Vec<u8>, bytes: &[u8]) -> Result<(), AllocError>
+fn put_hexadecimal(field: &mut Vec<u8>, bytes: &[u8]) -> Result<(), AllocError>
     ensures { Appends field.old.items field.new.items (flat_map hex_byte bytes.now) result }
 {
     for byte in bytes {
-        push_hex_byte(field, *byte)?;
+        put_hex_byte(field, *byte)?;
     }
     Ok(())
 }
 
-fn push_hex_byte(field: &mut Vec<u8>, byte: u8) -> Result<(), AllocError>
+fn put_hex_byte(field: &mut Vec<u8>, byte: u8) -> Result<(), AllocError>
     ensures { Appends field.old.items field.new.items (hex_byte byte) result }
 {
     field.push(hex_digit(byte / 16))?;

@@ -13,10 +13,10 @@ mod refusals;
 mod rows;
 mod steps;
 
-pub use escapes::push_escaped;
-pub use fields::push_field;
+pub use escapes::put_escaped;
+pub use fields::put_field;
 pub use lines::{answer_line, branch_line, event_line};
 pub use records::sorted_records;
 pub use refusals::is_refused;
-pub use rows::{push_line, push_rows};
-pub use steps::{name_of, push_branch, push_step, push_steps};
+pub use rows::{put_line, put_rows};
+pub use steps::{name_of, put_branch, put_step, put_steps};

@@ -3,7 +3,7 @@ ghost use Rattle.csv.specs.Writing.{row_text, writer_under};
 ghost use Rattle.run_report.specs.Texts.{field_of};
 ghost use Rattle.run_report.specs.Records.{IsReady, record_of, records_of, settings, without_last};
 
-use crate::fields::push_field;
+use crate::fields::put_field;
 use csv::{Writer, WriterBuilder};
 use plain_types::{Bytes, sort_in_byte_order};
 use row_values::{Row, Value};
@@ -15,7 +15,7 @@ fn fields_of(alloc: Global, row: &[Value]) -> Result<Vec<Vec<u8>>, AllocError>
     let mut fields = Vec::with_capacity(alloc, row.len())?;
     for value in row {
         let mut field = Vec::new(alloc);
-        push_field(alloc, &mut field, value)?;
+        put_field(alloc, &mut field, value)?;
         fields.push(field)?;
     }
     Ok(fields)

@@ -3,41 +3,41 @@ ghost use Rattle.plain_types.specs.Appends.{Appends};
 ghost use Rattle.std.specs.List.{flat_map};
 ghost use Rattle.run_report.specs.Report.{line, row_line, row_lines};
 
-use crate::escapes::push_escaped;
+use crate::escapes::put_escaped;
 use crate::records::sorted_records;
 use plain_types::Bytes;
 use row_values::Row;
 use std::alloc::{AllocError, Global};
 
 /// Appends the text as one line, with its line feed.
-pub fn push_line(text: &[u8], out: &mut Vec<u8>) -> Result<(), AllocError>
+pub fn put_line(text: &[u8], out: &mut Vec<u8>) -> Result<(), AllocError>
     ensures { Appends out.old.items out.new.items (line text.now) result }
 {
-    push_escaped(out, text)?;
+    put_escaped(out, text)?;
     out.push(b'\n')?;
     Ok(())
 }
 
 /// Appends the lines of the rows, sorted by the bytes of their records.
-pub fn push_rows(alloc: Global, rows: &[Row], out: &mut Vec<u8>) -> Result<(), AllocError>
+pub fn put_rows(alloc: Global, rows: &[Row], out: &mut Vec<u8>) -> Result<(), AllocError>
     ensures { Appends out.old.items out.new.items (row_lines rows.now) result }
 {
     let records = sorted_records(alloc, rows)?;
-    push_records(records.as_slice(), out)
+    put_records(records.as_slice(), out)
 }
 
-fn push_records(records: &[Bytes], out: &mut Vec<u8>) -> Result<(), AllocError>
+fn put_records(records: &[Bytes], out: &mut Vec<u8>) -> Result<(), AllocError>
     ensures { Appends out.old.items out.new.items (flat_map row_line records.now) result }
 {
     for text in records {
-        push_row(text.as_slice(), out)?;
+        put_row(text.as_slice(), out)?;
     }
     Ok(())
 }
 
-fn push_row(text: &[u8], out: &mut Vec<u8>) -> Result<(), AllocError>
+fn put_row(text: &[u8], out: &mut Vec<u8>) -> Result<(), AllocError>
     ensures { Appends out.old.items out.new.items (row_line text.now) result }
 {
     out.extend_from_slice(b"row ")?;
-    push_line(text, out)
+    put_line(text, out)
 }

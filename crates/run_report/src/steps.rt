@@ -4,13 +4,13 @@ ghost use Rattle.std.specs.Prelude.{◌≡◌};
 ghost use Rattle.run_report.specs.Report.{ended, lines_of_answer, lines_of_branch, lines_of_event, lines_of_step, lines_of_steps, name_of, rows_under};
 
 use crate::lines::{answer_line, branch_line, event_line};
-use crate::rows::push_rows;
+use crate::rows::put_rows;
 use plain_types::Text;
 use session_machine::{Answer, Event, Stepped};
 use std::alloc::{AllocError, Global};
 
 /// Appends the lines of a step of a session, whose name stands at its number among the names.
-pub fn push_step(
+pub fn put_step(
     alloc: Global,
     names: &[Text],
     step: &Stepped,
@@ -22,15 +22,15 @@ pub fn push_step(
         return Ok(());
     };
     let session = name_of(names, event.session);
-    push_event(alloc, session, event, out)?;
+    put_event(alloc, session, event, out)?;
     match &step.answer {
-        Some(answer) => push_answer(alloc, session, event.statement, answer, out),
+        Some(answer) => put_answer(alloc, session, event.statement, answer, out),
         None => Ok(()),
     }
 }
 
 /// Appends the lines of the steps, one after another.
-pub fn push_steps(
+pub fn put_steps(
     alloc: Global,
     names: &[Text],
     steps: &[Stepped],
@@ -39,13 +39,13 @@ pub fn push_steps(
     ensures { Appends out.old.items out.new.items (lines_of_steps names.now steps.now) result }
 {
     for step in steps {
-        push_step(alloc, names, step, out)?;
+        put_step(alloc, names, step, out)?;
     }
     Ok(())
 }
 
 /// Appends the line of a branch with so many rows.
-pub fn push_branch(
+pub fn put_branch(
     alloc: Global,
     name: &str,
     rows: usize,
@@ -54,7 +54,7 @@ pub fn push_branch(
     ensures { Appends out.old.items out.new.items (lines_of_branch name.now rows) result }
 {
     let text = branch_line(alloc, name, rows as u64)?;
-    push_ended(text.as_bytes(), out)
+    put_ended(text.as_bytes(), out)
 }
 
 /// The name of the session of this number, which is empty where no name stands at it.
@@ -67,7 +67,7 @@ pub fn name_of(names: &[Text], session: usize) -> &str
     }
 }
 
-fn push_event(
+fn put_event(
     alloc: Global,
     session: &str,
     event: &Event,
@@ -76,10 +76,10 @@ fn push_event(
     ensures { Appends out.old.items out.new.items (lines_of_event session.now event.now) result }
 {
     let text = event_line(alloc, session, event)?;
-    push_ended(text.as_bytes(), out)
+    put_ended(text.as_bytes(), out)
 }
 
-fn push_answer(
+fn put_answer(
     alloc: Global,
     session: &str,
     statement: usize,
@@ -89,22 +89,22 @@ fn push_answer(
     ensures { Appends out.old.items out.new.items (lines_of_answer session.now statement answer.now) result }
 {
     let text = answer_line(alloc, session, statement, answer)?;
-    push_ended(text.as_bytes(), out)?;
-    push_rows_under(alloc, answer, out)
+    put_ended(text.as_bytes(), out)?;
+    put_rows_under(alloc, answer, out)
 }
 
 // Appends the rows that the answer brings.
-fn push_rows_under(alloc: Global, answer: &Answer, out: &mut Vec<u8>) -> Result<(), AllocError>
+fn put_rows_under(alloc: Global, answer: &Answer, out: &mut Vec<u8>) -> Result<(), AllocError>
     ensures { Appends out.old.items out.new.items (rows_under answer.now) result }
 {
     match answer {
-        Answer::Selected(rows) => push_rows(alloc, rows.as_slice(), out),
+        Answer::Selected(rows) => put_rows(alloc, rows.as_slice(), out),
         _ => Ok(()),
     }
 }
 
 // Appends a line, in which no line feed stands, with the one that ends it.
-fn push_ended(text: &[u8], out: &mut Vec<u8>) -> Result<(), AllocError>
+fn put_ended(text: &[u8], out: &mut Vec<u8>) -> Result<(), AllocError>
     ensures { Appends out.old.items out.new.items (ended text.now) result }
 {
     out.extend_from_slice(text)?;

@@ -12,7 +12,7 @@ use Rattle.table_state.specs.declared.live_set.BranchState.{BranchState}
 use Rattle.table_state.specs.Files.{current_schema, version_at}
 use Rattle.table_state.specs.Live.{branch_at, data_files_of, rows_at}
 use Rattle.table_state.proofs.CallerLemmas.{Stands, branch_rows_stand, branch_stands, option_stands, stands_then, version_stands}
-use Rattle.table_scan.specs.Parting.{entry_of}
+use Rattle.change_sets.specs.Scanned.{entry_of}
 use Rattle.table_scan.specs.Scanning.{scanned_at}
 use Rattle.table_scan.proofs.CallerLemmas.{scan_stands}
 use Rattle.change_sets.specs.Verdict.{is_absent, verdict}

@@ -26,7 +26,7 @@ use Rattle.table_state.specs.declared.live_set.BranchState.{BranchState}
 use Rattle.table_state.specs.declared.load_fault.LoadFault.{LoadFault}
 use Rattle.table_state.specs.Files.{current_schema, version_at}
 use Rattle.table_state.specs.Live.{branch_at, data_files_of, rows_at}
-use Rattle.table_scan.specs.Parting.{entry_of}
+use Rattle.change_sets.specs.Scanned.{entry_of}
 use Rattle.table_scan.specs.Scanning.{scanned_at}
 use Rattle.change_sets.specs.Verdict.{is_absent, verdict}
 use Rattle.session_machine.specs.Plans.{plan_by}

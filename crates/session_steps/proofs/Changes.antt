@@ -26,9 +26,8 @@ use Rattle.table_state.specs.Live.{data_files_of, data_rows}
 use Rattle.table_state.specs.declared.state.State.{State}
 use Rattle.change_sets.specs.declared.scanned.Decision.{Decision}
 use Rattle.change_sets.specs.declared.scanned.ScannedFile.{ScannedFile}
-use Rattle.change_sets.specs.Scanned.{rows_in, rows_in_all}
+use Rattle.change_sets.specs.Scanned.{entry_of, rows_in, rows_in_all}
 use Rattle.table_scan.proofs.CallerLemmas.{is_parted, rows_stay, IsRead, scan_is_read, KeepsMissed, changes, changes_file, copied_is, left_in, removed_is, unchanged, hits_insert, kept_by_filter, wide_parts}
-use Rattle.table_scan.specs.Parting.{entry_of}
 use Rattle.table_scan.specs.Scanning.{rows_from, scanned_at}
 use Rattle.cow_writer.proofs.CallerLemmas.{all_rows, flat}
 use Rattle.cow_writer.specs.Copies.{entries_from}

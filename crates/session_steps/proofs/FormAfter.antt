@@ -5,7 +5,7 @@ use Rattle.std.specs.Ordering.{match_ordering, nat_cmp}
 use Rattle.std.specs.Cmp.Lexicographic.{slice_cmp}
 use Rattle.commit_manifests.proofs.CallerLemmas.{both, first, second}
 use Rattle.metadata_writer.specs.PartsAfter.{branch_at, parts_after, with_ref}
-use Rattle.table_state.specs.Form.{is_plain_schema, is_plain_table, is_plain_writing, is_unpartitioned}
+use Rattle.table_state.specs.Form.{schema_in_form, table_in_form, writing_in_form, is_unpartitioned}
 use Rattle.table_metadata.specs.declared.references.RefItem.{RefItem}
 use Rattle.table_metadata.specs.declared.snapshots.Snapshot.{Snapshot}
 use Rattle.table_metadata.specs.Metadata.{Parts}
@@ -29,18 +29,18 @@ refs_are_main r (x ∷ xs) own all =
 
 module _ (snapshot : Snapshot) (now : ℤ) (p : Parts) where
   abbrev schemas : Bool
-  schemas = list_all (is_plain_schema p.current_schema) p.schemas
+  schemas = list_all (schema_in_form p.current_schema) p.schemas
 
   abbrev specs : Bool
   specs = list_all is_unpartitioned p.specs
 
   abbrev writing : Bool
-  writing = is_plain_writing p.properties
+  writing = writing_in_form p.properties
 
   abbrev next_refs : List RefItem
   next_refs = with_ref (branch_at (codes "main") snapshot.id) p.refs
 
-  pub form_after : is_plain_table p ≡ true → is_plain_table (parts_after (codes "main") snapshot now p) ≡ true
+  pub form_after : table_in_form p ≡ true → table_in_form (parts_after (codes "main") snapshot now p) ≡ true
   form_after form =
       let without_schemas : (specs && (writing && list_all is_main p.refs)) ≡ true = second schemas (specs && (writing && list_all is_main p.refs)) form in
       let without_specs : (writing && list_all is_main p.refs) ≡ true = second specs (writing && list_all is_main p.refs) without_schemas in

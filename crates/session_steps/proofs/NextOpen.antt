@@ -17,7 +17,7 @@ use Rattle.plain_types.proofs.CallerLemmas.{one_value}
 use Rattle.table_metadata.specs.declared.metadata_fault.MetadataFault.TheVariants as metadata_fault
 use Rattle.table_metadata.specs.Metadata.{Parts, metadata_of, parts}
 use Rattle.metadata_writer.specs.PartsAfter.{parts_after}
-use Rattle.table_state.specs.Form.{is_plain_table}
+use Rattle.table_state.specs.Form.{table_in_form}
 use Rattle.table_state.proofs.CallerLemmas.{rows_of_branch_stand}
 use Rattle.table_state.specs.declared.load_fault.LoadFault.{LoadFault}
 use Rattle.table_state.specs.declared.load_fault.LoadFault.TheVariants as fault
@@ -82,7 +82,7 @@ module _ (table : List ℕ) (schema : TableSchema) (sources : List Source) (s : 
   by_schema : current_schema next_parts ≡ Ok schema
   by_schema = ap current_schema (head_held table schema sources s files current pending prepared was is) ∙ was.by_schema
 
-  form : is_plain_table next_parts ≡ true
+  form : table_in_form next_parts ≡ true
   form = form_after (snapshot_in head (change table schema sources s files current pending prepared was is) is.names is.now) is.now (parts head.metadata) (head_form table schema sources s files current pending prepared was is)
 
   -- ---- its rows

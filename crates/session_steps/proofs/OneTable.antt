@@ -9,7 +9,7 @@ use Rattle.table_names.specs.Versions.{version_name}
 use Rattle.plain_types.proofs.CallerLemmas.{one_value}
 use Rattle.table_metadata.specs.declared.metadata.Metadata.{Metadata}
 use Rattle.table_metadata.specs.Metadata.{Parts, metadata_of, parts}
-use Rattle.table_state.specs.Form.{is_plain_table}
+use Rattle.table_state.specs.Form.{table_in_form}
 use Rattle.table_state.proofs.CallerLemmas.{version_stands}
 use Rattle.table_state.specs.declared.load_fault.LoadFault.TheVariants as fault
 use Rattle.table_state.specs.Files.{version_at}
@@ -51,11 +51,11 @@ module _ (table : List ℕ) (schema : TableSchema) (sources : List Source) (s : 
   pub head_held : parts is.head.metadata ≡ was.held
   head_held = one_value (parts is.head.metadata) was.held (version_at table current files) head_read was.read
 
-  pub base_form : is_plain_table (parts pending.base.metadata) ≡ true
-  base_form = ap is_plain_table base_held ∙ was.form
+  pub base_form : table_in_form (parts pending.base.metadata) ≡ true
+  base_form = ap table_in_form base_held ∙ was.form
 
-  pub head_form : is_plain_table (parts is.head.metadata) ≡ true
-  head_form = ap is_plain_table head_held ∙ was.form
+  pub head_form : table_in_form (parts is.head.metadata) ≡ true
+  head_form = ap table_in_form head_held ∙ was.form
 
   same_parts : parts is.head.metadata ≡ parts pending.base.metadata
   same_parts = head_held ∙ sym base_held

@@ -21,8 +21,8 @@ use Rattle.table_state.specs.States.{IsStateOf}
 use Rattle.change_sets.specs.declared.change.ChangeSet.{ChangeSet}
 use Rattle.change_sets.specs.declared.change.Plan.{Plan}
 use Rattle.change_sets.specs.declared.scanned.ScannedFile.{ScannedFile}
+use Rattle.change_sets.specs.Scanned.{entry_of}
 use Rattle.table_scan.proofs.CallerLemmas.{scan_stands}
-use Rattle.table_scan.specs.Parting.{entry_of}
 use Rattle.table_scan.specs.Scanning.{scanned_at}
 use Rattle.change_sets.specs.Verdict.{verdict}
 use Rattle.branch_commit.proofs.CallerLemmas.{states_stand}

@@ -7,7 +7,7 @@ use Rattle.row_values.specs.declared.value.Value.{Value}
 use Rattle.store_core.specs.Files.{Files}
 use Rattle.table_metadata.specs.Metadata.{Parts}
 use Rattle.table_names.specs.Versions.{version_of}
-use Rattle.table_state.specs.Form.{is_plain_table}
+use Rattle.table_state.specs.Form.{table_in_form}
 use Rattle.table_state.specs.Files.{current_schema, version_at}
 use Rattle.table_state.specs.Live.{rows_of_branch}
 
@@ -16,6 +16,6 @@ pub record IsOpen (table : List ℕ) (schema : TableSchema) (files : Files) (cur
   pub held : Parts
   pub read : version_at table current files ≡ Ok held
   pub by_schema : current_schema held ≡ Ok schema
-  pub form : is_plain_table held ≡ true
+  pub form : table_in_form held ≡ true
   pub rows : List (List Value)
   pub told : rows_of_branch table current (codes "main") files ≡ Ok rows

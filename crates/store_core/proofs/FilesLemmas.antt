@@ -27,7 +27,10 @@ keys-none = ap (map (λ e. e.0)) (nothing_in (entries (files_of [])) (sym (len-e
 keys-put : (name bytes : List ℕ) (es : List (List ℕ × List ℕ)) → map (λ e. e.0) (put (slice_cmp nat_cmp) name bytes es) ≡ with_name name (map (λ e. e.0) es)
 keys-put name bytes [] = refl
 keys-put name bytes (e ∷ es) =
-    elim (slice_cmp nat_cmp name e.0) as (λ o. map (λ (e : List ℕ × List ℕ). e.0) (by_order o ((name, bytes) ∷ e ∷ es) ((e.0, bytes) ∷ es) (e ∷ put (slice_cmp nat_cmp) name bytes es)) ≡ by_order o (name ∷ e.0 ∷ map (λ e. e.0) es) (e.0 ∷ map (λ e. e.0) es) (e.0 ∷ with_name name (map (λ e. e.0) es))) [
+    elim (slice_cmp nat_cmp name e.0) as
+    (λ o. map (λ (e : List ℕ × List ℕ). e.0)
+    (by_order o ((name, bytes) ∷ e ∷ es) ((e.0, bytes) ∷ es) (e ∷ put (slice_cmp nat_cmp) name bytes es)) ≡ by_order o
+    (name ∷ e.0 ∷ map (λ e. e.0) es) (e.0 ∷ map (λ e. e.0) es) (e.0 ∷ with_name name (map (λ e. e.0) es))) [
       | Less ↦ refl
       | Equal ↦ refl
       | Greater ↦ ap (λ names. e.0 ∷ names) (keys-put name bytes es)

@@ -1,3 +1,4 @@
 pub mod CallerLemmas
 mod FilesLemmas
+mod MovesLemmas
 mod WrittenLemmas

@@ -5,5 +5,6 @@ pub mod Memory
 pub mod MemoryInputs
 pub mod MemorySink
 pub mod MemoryStore
+pub mod Moves
 pub mod Names
 pub mod Written

@@ -19,7 +19,17 @@ abbrev pub properties_json : Data → Data
 properties_json d = by_option (get (codes "properties") d) (λ properties. properties) (object no_members)
 
 abbrev pub made_of : List ℕ → ℤ → Asked → Made
-made_of location now asked = record { location = location; uuid = identifier_text location now; schema = schema_json asked.json; schema_id = asked.schema.id; last_column = last_column asked.schema.columns; fields = fields_in asked.json; last_partition = last_partition asked.spec.fields; properties = properties_json asked.json; created_ms = now }
+made_of location now asked = record {
+  location = location;
+  uuid = identifier_text location now;
+  schema = schema_json asked.json;
+  schema_id = asked.schema.id;
+  last_column = last_column asked.schema.columns;
+  fields = fields_in asked.json;
+  last_partition = last_partition asked.spec.fields;
+  properties = properties_json asked.json;
+  created_ms = now;
+}
 
 -- the bytes of the first version's metadata: compact JSON
 abbrev pub first_text : List ℕ → ℤ → Asked → List ℕ

@@ -1,6 +1,7 @@
 // Reads a schema file.
-ghost use Rattle.std.specs.Prelude.{◌≡◌, ◌≢◌, IfOk, IfErr, OnOk, IsOk, Ok, Err};
+ghost use Rattle.std.specs.Prelude.{◌≡◌, IfOk, IfErr, OnOk, IsOk, Err};
 ghost use Rattle.std.specs.Str.{is_utf8};
+ghost use Rattle.plain_types.specs.Answers.{Answers};
 ghost use Rattle.serde_json.specs.View.{view, members_view};
 ghost use Rattle.table_definition.specs.Definition.{
   asked,
@@ -66,8 +67,7 @@ const MOST_LEVELS: u32 = 125;
 /// Reads a schema file.
 #[tactic(auto, unfolding(crate::specs::Definition::definition_of))]
 pub fn read_definition(alloc: Global, bytes: &[u8]) -> Result<Definition, DefinitionFault>
-    ensures ok { IfOk result (λ d. definition_of bytes.now ≡ Ok (asked d)) }
-    ensures err { IfErr result (λ f. f ≢ DefinitionFault.Memory → definition_of bytes.now ≡ Err f) }
+    ensures answers { Answers DefinitionFault.Memory (λ d. asked d) result (definition_of bytes.now) }
 {
     if !is_text(bytes) {
         return Err(DefinitionFault::Text);
@@ -86,8 +86,7 @@ fn is_text(bytes: &[u8]) -> bool
 }
 
 fn object_of(alloc: Global, bytes: &[u8]) -> Result<Value, DefinitionFault>
-    ensures ok { IfOk result (λ json. object_of bytes.now ≡ Ok (view json)) }
-    ensures err { IfErr result (λ f. f ≢ DefinitionFault.Memory → object_of bytes.now ≡ Err f) }
+    ensures answers { Answers DefinitionFault.Memory (λ json. view json) result (object_of bytes.now) }
 {
     match read_json(alloc, bytes) {
         Ok(json) => Ok(json),
@@ -98,8 +97,7 @@ fn object_of(alloc: Global, bytes: &[u8]) -> Result<Value, DefinitionFault>
 
 #[tactic(auto, unfolding(crate::specs::Definition::asked_in))]
 fn read_asked(alloc: Global, json: Value) -> Result<Definition, DefinitionFault>
-    ensures ok { IfOk result (λ d. asked_in (view json) ≡ Ok (asked d)) }
-    ensures err { IfErr result (λ f. f ≢ DefinitionFault.Memory → asked_in (view json) ≡ Err f) }
+    ensures answers { Answers DefinitionFault.Memory (λ d. asked d) result (asked_in (view json)) }
 {
     check_form(&json)?;
     let schema = schema_in(alloc, &json)?;
@@ -159,8 +157,7 @@ fn is_struct(schema: &Value) -> bool
 }
 
 fn schema_in(alloc: Global, json: &Value) -> Result<TableSchema, DefinitionFault>
-    ensures ok { IfOk result (λ s. schema_in (view json.now) ≡ Ok s) }
-    ensures err { IfErr result (λ f. f ≢ DefinitionFault.Memory → schema_in (view json.now) ≡ Err f) }
+    ensures answers { Answers DefinitionFault.Memory (λ s. s) result (schema_in (view json.now)) }
 {
     let Some(schema) = json.get("schema") else {
         return Err(DefinitionFault::Schema);
@@ -176,8 +173,7 @@ fn schema_in(alloc: Global, json: &Value) -> Result<TableSchema, DefinitionFault
 }
 
 fn spec_in(alloc: Global, json: &Value, schema: &TableSchema) -> Result<Spec, DefinitionFault>
-    ensures ok { IfOk result (λ s. spec_in schema.now (view json.now) ≡ Ok s) }
-    ensures err { IfErr result (λ f. f ≢ DefinitionFault.Memory → spec_in schema.now (view json.now) ≡ Err f) }
+    ensures answers { Answers DefinitionFault.Memory (λ s. s) result (spec_in schema.now (view json.now)) }
 {
     let spec = spec_json(alloc, fields_in(alloc, json)?)?;
     match read_spec(alloc, &spec, schema) {
@@ -198,8 +194,7 @@ pub(crate) fn fields_in(alloc: Global, json: &Value) -> Result<Value, AllocError
 }
 
 fn properties_in(alloc: Global, json: &Value) -> Result<Properties, DefinitionFault>
-    ensures ok { IfOk result (λ p. properties_in (view json.now) ≡ Ok p) }
-    ensures err { IfErr result (λ f. f ≢ DefinitionFault.Memory → properties_in (view json.now) ≡ Err f) }
+    ensures answers { Answers DefinitionFault.Memory (λ p. p) result (properties_in (view json.now)) }
 {
     match read_table_properties(alloc, json) {
         Ok(properties) => Ok(properties),

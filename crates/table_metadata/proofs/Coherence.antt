@@ -1,5 +1,5 @@
 -- Metadata that is read is coherent.
-use Rattle.std.proofs.Common.{◌≡◌, ℤ, List, Option, Some, None, Result, Ok, Err, IsSome, refl, ap, subst}
+use Rattle.std.proofs.Common.{◌≡◌, ℤ, List, Option, Some, None, Ok, IsSome, refl, ap, subst}
 use Rattle.std.specs.Result.{IsOk, is_ok}
 use Rattle.serde_json.specs.Data.{Data}
 use Rattle.row_values.specs.declared.schema.TableSchema.{TableSchema}

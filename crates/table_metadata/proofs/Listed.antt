@@ -15,8 +15,9 @@ use Rattle.table_metadata.specs.declared.snapshots.Snapshot.{Snapshot}
 use Rattle.iceberg_schema.specs.declared.spec_fault.SpecFault.TheVariants as spec_fault
 use Rattle.iceberg_schema.specs.Keys.{bool_at, has_id, has_twice, in_int, int_at, is_id, item_count, items_at, long_at, text_at}
 use Rattle.iceberg_schema.specs.KindText.{kind_of}
-use Rattle.iceberg_schema.specs.SchemaJson as schema_json
-use Rattle.iceberg_schema.specs.SchemaJson.{column_of, columns_of, has_name, is_reserved, table_schema_of}
+use Rattle.row_values.specs.Columns as columns
+use Rattle.row_values.specs.Columns.{has_name}
+use Rattle.iceberg_schema.specs.SchemaJson.{column_of, columns_of, is_reserved, table_schema_of}
 use Rattle.table_metadata.specs.SchemaList.{columns_with, schemas_from, schemas_of, specs_from, specs_of}
 use Rattle.table_metadata.specs.Snapshots.{operation_of, optional_int, optional_long, snapshot_of, snapshots_from, snapshots_of}
 use Rattle.iceberg_schema.specs.SoundSchema.{IsSoundSchema}
@@ -70,7 +71,7 @@ column_has earlier d c h =
     let s3 = two_steps (or_fault (schema_fault.Missing (codes "required")) (bool_at (codes "required") d)) _ c s2.2 in
     let s4 = two_steps (or_fault (schema_fault.Missing (codes "type")) (text_at (codes "type") d)) _ c s3.2 in
     let s5 = two_steps (or_fault (schema_fault.Kind s4.0) (kind_of s4.0)) _ c s4.2 in
-    let s6 = two_steps (fault_if (schema_fault.Duplicate s1.0) (is_reserved s1.0 || schema_json.has_id s1.0 earlier)) _ c s5.2 in
+    let s6 = two_steps (fault_if (schema_fault.Duplicate s1.0) (is_reserved s1.0 || columns.has_id s1.0 earlier)) _ c s5.2 in
     let s7 = two_steps (fault_if (schema_fault.Name s2.0) (nat_lt 4096 (length s2.0) || has_name s2.0 earlier)) _ c s6.2 in
     subst HasIntId (one_value _ c _ refl s7.2) (int_is (codes "id") d s1.0 (there (schema_fault.Missing (codes "id")) (int_at (codes "id") d) s1.0 s1.1)).0
 

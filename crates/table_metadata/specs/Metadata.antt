@@ -44,7 +44,22 @@ pub record Parts : Type 0 where
 
 -- all fields but the JSON itself
 abbrev pub parts : Metadata → Parts
-parts m = record { format_version = m.format_version; location = m.location; last_sequence = m.last_sequence; last_updated_ms = m.last_updated_ms; last_column = m.last_column; schemas = m.schemas; current_schema = m.current_schema; specs = m.specs; default_spec = m.default_spec; last_partition = m.last_partition; properties = m.properties; current_snapshot = m.current_snapshot; snapshots = m.snapshots; refs = m.refs }
+parts m = record {
+  format_version = m.format_version;
+  location = m.location;
+  last_sequence = m.last_sequence;
+  last_updated_ms = m.last_updated_ms;
+  last_column = m.last_column;
+  schemas = m.schemas;
+  current_schema = m.current_schema;
+  specs = m.specs;
+  default_spec = m.default_spec;
+  last_partition = m.last_partition;
+  properties = m.properties;
+  current_snapshot = m.current_snapshot;
+  snapshots = m.snapshots;
+  refs = m.refs;
+}
 
 unfoldable pub parts_of : Data → Result Parts MetadataFault
 parts_of d = do
@@ -59,7 +74,22 @@ parts_of d = do
   _ ← field_ids_fit keys.last_column ids.last_partition schemas specs
   properties ← properties_of d
   refs ← refs_of current snapshots listed
-  Ok (record { format_version = 2; location = keys.location; last_sequence = keys.last_sequence; last_updated_ms = keys.last_updated_ms; last_column = keys.last_column; schemas = schemas; current_schema = ids.schema; specs = specs; default_spec = ids.spec; last_partition = ids.last_partition; properties = properties; current_snapshot = current; snapshots = snapshots; refs = refs })
+  Ok (record {
+    format_version = 2;
+    location = keys.location;
+    last_sequence = keys.last_sequence;
+    last_updated_ms = keys.last_updated_ms;
+    last_column = keys.last_column;
+    schemas = schemas;
+    current_schema = ids.schema;
+    specs = specs;
+    default_spec = ids.spec;
+    last_partition = ids.last_partition;
+    properties = properties;
+    current_snapshot = current;
+    snapshots = snapshots;
+    refs = refs;
+  })
 
 -- an object in which each number is a whole number of 64 bits
 unfoldable pub whole_object : Data → Result Data MetadataFault

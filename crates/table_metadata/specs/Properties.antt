@@ -48,4 +48,11 @@ properties_of d = do
   retries ← retries_of d
   least_to_merge ← least_to_merge_of d
   disabled ← is_second (codes "commit.manifest-merge.enabled") (codes "true") (codes "false") d
-  Ok (record { delete = record { on_read = delete; snapshot_level = delete_level }; update = record { on_read = update; snapshot_level = update_level }; merge = record { on_read = merge; snapshot_level = merge_level }; retries = retries; least_to_merge = least_to_merge; merge_enabled = not disabled })
+  Ok (record {
+    delete = record { on_read = delete; snapshot_level = delete_level };
+    update = record { on_read = update; snapshot_level = update_level };
+    merge = record { on_read = merge; snapshot_level = merge_level };
+    retries = retries;
+    least_to_merge = least_to_merge;
+    merge_enabled = not disabled;
+  })

@@ -3,6 +3,7 @@ ghost use Rattle.std.specs.Prelude.{◌≡◌};
 ghost use Rattle.std.specs.Option.{option_copied};
 ghost use Rattle.table_metadata.specs.ById.{schema_with, snapshot_with, spec_with};
 
+use crate::metadata::Metadata;
 use crate::snapshots::Snapshot;
 use row_values::{Spec, TableSchema};
 
@@ -34,6 +35,13 @@ pub fn schema_with(id: i32, schemas: &[TableSchema]) -> Option<&TableSchema>
         rest = after;
     }
     None
+}
+
+/// The schema that new rows have, where it is among the table's schemas.
+pub fn current_schema(metadata: &Metadata) -> Option<&TableSchema>
+    ensures { option_copied result ≡ schema_with metadata.now.current_schema metadata.now.schemas }
+{
+    schema_with(metadata.current_schema, metadata.schemas.as_slice())
 }
 
 /// The snapshot with an id.

@@ -1,6 +1,7 @@
 //! What holds of the field ids of all schemas and specs together.
-ghost use Rattle.std.specs.Prelude.{◌≡◌, ◌≢◌, int_lt, IfOk, IfErr, Ok, Err};
+ghost use Rattle.std.specs.Prelude.{◌≡◌, int_lt};
 ghost use Rattle.std.specs.List.{list_any};
+ghost use Rattle.plain_types.specs.Answers.{Answers};
 ghost use Rattle.table_metadata.specs.FieldIds.{has_column_above, has_field_above, may_be_one, clash, clashes_with, kinds_clash, field_ids_fit};
 
 use crate::MetadataFault;
@@ -17,8 +18,7 @@ pub(crate) fn field_ids_fit(
     schemas: &[TableSchema],
     specs: &[Spec],
 ) -> Result<(), MetadataFault>
-    ensures ok { IfOk result (λ x. field_ids_fit last_column last_partition schemas.now specs.now ≡ Ok x) }
-    ensures err { IfErr result (λ f. f ≢ MetadataFault.Memory → field_ids_fit last_column last_partition schemas.now specs.now ≡ Err f) }
+    ensures answers { Answers MetadataFault.Memory (λ x. x) result (field_ids_fit last_column last_partition schemas.now specs.now) }
 {
     if has_column_above(last_column, schemas) {
         return Err(shape(alloc, "last-column-id"));

@@ -21,7 +21,7 @@ mod schema_list;
 mod snapshots;
 mod table_keys;
 
-pub use by_id::{schema_with, snapshot_with, spec_with};
+pub use by_id::{current_schema, schema_with, snapshot_with, spec_with};
 pub use laws::what_is_read_is_sound;
 pub use metadata::Metadata;
 pub use metadata_fault::MetadataFault;

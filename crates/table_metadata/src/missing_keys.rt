@@ -1,5 +1,6 @@
 //! Whether each needed key stands, and the format version is 2.
-ghost use Rattle.std.specs.Prelude.{◌≡◌, ◌≢◌, IfOk, IfErr, Ok, Err};
+ghost use Rattle.std.specs.Prelude.{◌≡◌};
+ghost use Rattle.plain_types.specs.Answers.{Answers};
 ghost use Rattle.serde_json.specs.View.{view, items_view, members_view};
 ghost use Rattle.table_metadata.specs.MissingKeys.{
   needs,
@@ -24,8 +25,7 @@ use std::alloc::Global;
 /// The first needed key that is absent, the version's before all others, or a version that is not 2.
 #[tactic(auto, unfolding(crate::specs::MissingKeys::keys_stand))]
 pub(crate) fn keys_stand(alloc: Global, json: &Value) -> Result<(), MetadataFault>
-    ensures ok { IfOk result (λ x. keys_stand (view json.now) ≡ Ok x) }
-    ensures err { IfErr result (λ f. f ≢ MetadataFault.Memory → keys_stand (view json.now) ≡ Err f) }
+    ensures answers { Answers MetadataFault.Memory (λ x. x) result (keys_stand (view json.now)) }
 {
     needs(alloc, json, "format-version")?;
     version_fits(json)?;
@@ -35,8 +35,7 @@ pub(crate) fn keys_stand(alloc: Global, json: &Value) -> Result<(), MetadataFaul
 }
 
 fn needs(alloc: Global, json: &Value, key: &str) -> Result<(), MetadataFault>
-    ensures ok { IfOk result (λ x. needs key.now (view json.now) ≡ Ok x) }
-    ensures err { IfErr result (λ f. f ≢ MetadataFault.Memory → needs key.now (view json.now) ≡ Err f) }
+    ensures answers { Answers MetadataFault.Memory (λ x. x) result (needs key.now (view json.now)) }
 {
     match json.get(key) {
         Some(_) => Ok(()),
@@ -62,8 +61,7 @@ fn version_fits(json: &Value) -> Result<(), MetadataFault>
 
 #[tactic(auto, unfolding(crate::specs::MissingKeys::table_keys_stand))]
 fn table_keys_stand(alloc: Global, json: &Value) -> Result<(), MetadataFault>
-    ensures ok { IfOk result (λ x. table_keys_stand (view json.now) ≡ Ok x) }
-    ensures err { IfErr result (λ f. f ≢ MetadataFault.Memory → table_keys_stand (view json.now) ≡ Err f) }
+    ensures answers { Answers MetadataFault.Memory (λ x. x) result (table_keys_stand (view json.now)) }
 {
     needs(alloc, json, "table-uuid")?;
     needs(alloc, json, "location")?;
@@ -79,8 +77,7 @@ fn table_keys_stand(alloc: Global, json: &Value) -> Result<(), MetadataFault>
 
 #[tactic(auto, unfolding(crate::specs::MissingKeys::listed_snapshots_stand))]
 fn listed_snapshots_stand(alloc: Global, json: &Value) -> Result<(), MetadataFault>
-    ensures ok { IfOk result (λ x. listed_snapshots_stand (view json.now) ≡ Ok x) }
-    ensures err { IfErr result (λ f. f ≢ MetadataFault.Memory → listed_snapshots_stand (view json.now) ≡ Err f) }
+    ensures answers { Answers MetadataFault.Memory (λ x. x) result (listed_snapshots_stand (view json.now)) }
 {
     match items_at(json, "snapshots") {
         Some(snapshots) => snapshots_stand(alloc, snapshots),
@@ -90,8 +87,7 @@ fn listed_snapshots_stand(alloc: Global, json: &Value) -> Result<(), MetadataFau
 
 #[tactic(auto, unfolding(crate::specs::MissingKeys::snapshots_stand))]
 fn snapshots_stand(alloc: Global, snapshots: &[Value]) -> Result<(), MetadataFault>
-    ensures ok { IfOk result (λ x. snapshots_stand (items_view snapshots.now) ≡ Ok x) }
-    ensures err { IfErr result (λ f. f ≢ MetadataFault.Memory → snapshots_stand (items_view snapshots.now) ≡ Err f) }
+    ensures answers { Answers MetadataFault.Memory (λ x. x) result (snapshots_stand (items_view snapshots.now)) }
 {
     let mut rest = snapshots;
     while let [first, after @ ..] = rest {
@@ -103,8 +99,7 @@ fn snapshots_stand(alloc: Global, snapshots: &[Value]) -> Result<(), MetadataFau
 
 #[tactic(auto, unfolding(crate::specs::MissingKeys::snapshot_keys_stand))]
 fn snapshot_keys_stand(alloc: Global, json: &Value) -> Result<(), MetadataFault>
-    ensures ok { IfOk result (λ x. snapshot_keys_stand (view json.now) ≡ Ok x) }
-    ensures err { IfErr result (λ f. f ≢ MetadataFault.Memory → snapshot_keys_stand (view json.now) ≡ Err f) }
+    ensures answers { Answers MetadataFault.Memory (λ x. x) result (snapshot_keys_stand (view json.now)) }
 {
     if !json.is_object() {
         return Ok(());
@@ -117,8 +112,7 @@ fn snapshot_keys_stand(alloc: Global, json: &Value) -> Result<(), MetadataFault>
 
 #[tactic(auto, unfolding(crate::specs::MissingKeys::listed_refs_stand))]
 fn listed_refs_stand(alloc: Global, json: &Value) -> Result<(), MetadataFault>
-    ensures ok { IfOk result (λ x. listed_refs_stand (view json.now) ≡ Ok x) }
-    ensures err { IfErr result (λ f. f ≢ MetadataFault.Memory → listed_refs_stand (view json.now) ≡ Err f) }
+    ensures answers { Answers MetadataFault.Memory (λ x. x) result (listed_refs_stand (view json.now)) }
 {
     match members_at(json, "refs") {
         Some(refs) => refs_stand(alloc, refs),
@@ -128,8 +122,7 @@ fn listed_refs_stand(alloc: Global, json: &Value) -> Result<(), MetadataFault>
 
 #[tactic(auto, unfolding(crate::specs::MissingKeys::refs_stand))]
 fn refs_stand(alloc: Global, refs: &Map<String, Value>) -> Result<(), MetadataFault>
-    ensures ok { IfOk result (λ x. refs_stand (members_view refs.now.entries) ≡ Ok x) }
-    ensures err { IfErr result (λ f. f ≢ MetadataFault.Memory → refs_stand (members_view refs.now.entries) ≡ Err f) }
+    ensures answers { Answers MetadataFault.Memory (λ x. x) result (refs_stand (members_view refs.now.entries)) }
 {
     for (_, reference) in refs.iter() {
         ref_keys_stand(alloc, reference)?;
@@ -139,8 +132,7 @@ fn refs_stand(alloc: Global, refs: &Map<String, Value>) -> Result<(), MetadataFa
 
 #[tactic(auto, unfolding(crate::specs::MissingKeys::ref_keys_stand))]
 fn ref_keys_stand(alloc: Global, json: &Value) -> Result<(), MetadataFault>
-    ensures ok { IfOk result (λ x. ref_keys_stand (view json.now) ≡ Ok x) }
-    ensures err { IfErr result (λ f. f ≢ MetadataFault.Memory → ref_keys_stand (view json.now) ≡ Err f) }
+    ensures answers { Answers MetadataFault.Memory (λ x. x) result (ref_keys_stand (view json.now)) }
 {
     if !json.is_object() {
         return Ok(());

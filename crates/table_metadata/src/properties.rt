@@ -1,5 +1,6 @@
 //! The table properties that say how rows are changed and how a commit is tried.
-ghost use Rattle.std.specs.Prelude.{◌≡◌, ◌≢◌, option_map, IfOk, IfErr, Ok, Err};
+ghost use Rattle.std.specs.Prelude.{◌≡◌, ◌≢◌, option_map};
+ghost use Rattle.plain_types.specs.Answers.{Answers};
 ghost use Rattle.serde_json.specs.View.{view};
 ghost use Rattle.table_metadata.specs.TableProperties.{table_properties_of};
 ghost use Rattle.table_metadata.specs.Properties.{property_at, is_second, reads_on, is_snapshot_level, retries_of, least_to_merge_of, properties_of};
@@ -38,8 +39,7 @@ pub struct Properties {
 
 #[tactic(auto, unfolding(crate::specs::Properties::properties_of))]
 pub(crate) fn read_properties(alloc: Global, json: &Value) -> Result<Properties, MetadataFault>
-    ensures ok { IfOk result (λ p. properties_of (view json.now) ≡ Ok p) }
-    ensures err { IfErr result (λ f. f ≢ MetadataFault.Memory → properties_of (view json.now) ≡ Err f) }
+    ensures answers { Answers MetadataFault.Memory (λ p. p) result (properties_of (view json.now)) }
 {
     let delete = reads_on(alloc, json, "write.delete.mode")?;
     let update = reads_on(alloc, json, "write.update.mode")?;
@@ -78,8 +78,7 @@ pub(crate) fn read_properties(alloc: Global, json: &Value) -> Result<Properties,
 /// Reads the properties under the key `properties` of an object, where it is an object of texts.
 #[tactic(auto, unfolding(crate::specs::TableProperties::table_properties_of))]
 pub fn read_table_properties(alloc: Global, json: &Value) -> Result<Properties, MetadataFault>
-    ensures ok { IfOk result (λ p. table_properties_of (view json.now) ≡ Ok p) }
-    ensures err { IfErr result (λ f. f ≢ MetadataFault.Memory → table_properties_of (view json.now) ≡ Err f) }
+    ensures answers { Answers MetadataFault.Memory (λ p. p) result (table_properties_of (view json.now)) }
 {
     properties_shape(alloc, json)?;
     read_properties(alloc, json)
@@ -87,15 +86,13 @@ pub fn read_table_properties(alloc: Global, json: &Value) -> Result<Properties, 
 
 /// Whether a statement's mode is `merge-on-read`.
 fn reads_on(alloc: Global, json: &Value, key: &str) -> Result<bool, MetadataFault>
-    ensures ok { IfOk result (λ b. reads_on key.now (view json.now) ≡ Ok b) }
-    ensures err { IfErr result (λ f. f ≢ MetadataFault.Memory → reads_on key.now (view json.now) ≡ Err f) }
+    ensures answers { Answers MetadataFault.Memory (λ b. b) result (reads_on key.now (view json.now)) }
 {
     is_second(alloc, json, key, "copy-on-write", "merge-on-read")
 }
 
 fn is_snapshot_level(alloc: Global, json: &Value, key: &str) -> Result<bool, MetadataFault>
-    ensures ok { IfOk result (λ b. is_snapshot_level key.now (view json.now) ≡ Ok b) }
-    ensures err { IfErr result (λ f. f ≢ MetadataFault.Memory → is_snapshot_level key.now (view json.now) ≡ Err f) }
+    ensures answers { Answers MetadataFault.Memory (λ b. b) result (is_snapshot_level key.now (view json.now)) }
 {
     is_second(alloc, json, key, "serializable", "snapshot")
 }
@@ -108,8 +105,7 @@ fn is_second(
     first: &str,
     second: &str,
 ) -> Result<bool, MetadataFault>
-    ensures ok { IfOk result (λ b. is_second key.now first.now second.now (view json.now) ≡ Ok b) }
-    ensures err { IfErr result (λ f. f ≢ MetadataFault.Memory → is_second key.now first.now second.now (view json.now) ≡ Err f) }
+    ensures answers { Answers MetadataFault.Memory (λ b. b) result (is_second key.now first.now second.now (view json.now)) }
 {
     let Some(text) = property_at(json, key) else {
         return Ok(false);
@@ -126,8 +122,7 @@ fn is_second(
 /// How often a commit is tried again.
 #[tactic(auto, unfolding(crate::specs::Properties::retries_of))]
 fn read_retries(alloc: Global, json: &Value) -> Result<u32, MetadataFault>
-    ensures ok { IfOk result (λ n. retries_of (view json.now) ≡ Ok n) }
-    ensures err { IfErr result (λ f. f ≢ MetadataFault.Memory → retries_of (view json.now) ≡ Err f) }
+    ensures answers { Answers MetadataFault.Memory (λ n. n) result (retries_of (view json.now)) }
 {
     let Some(text) = property_at(json, "commit.retry.num-retries") else {
         return Ok(DEFAULT_RETRIES);
@@ -145,8 +140,7 @@ fn read_retries(alloc: Global, json: &Value) -> Result<u32, MetadataFault>
 /// How many manifests are merged at least.
 #[tactic(auto, unfolding(crate::specs::Properties::least_to_merge_of))]
 fn read_least_to_merge(alloc: Global, json: &Value) -> Result<u64, MetadataFault>
-    ensures ok { IfOk result (λ n. least_to_merge_of (view json.now) ≡ Ok n) }
-    ensures err { IfErr result (λ f. f ≢ MetadataFault.Memory → least_to_merge_of (view json.now) ≡ Err f) }
+    ensures answers { Answers MetadataFault.Memory (λ n. n) result (least_to_merge_of (view json.now)) }
 {
     let Some(text) = property_at(json, "commit.manifest.min-count-to-merge") else {
         return Ok(DEFAULT_LEAST_TO_MERGE);

@@ -1,5 +1,6 @@
 //! Reads a metadata file.
 ghost use Rattle.std.specs.Prelude.{◌≡◌, ◌≢◌, IfOk, IfErr, Ok, Err};
+ghost use Rattle.plain_types.specs.Answers.{Answers};
 ghost use Rattle.serde_json.specs.View.{view};
 ghost use Rattle.table_metadata.specs.Coherent.{IsCoherent};
 ghost use Rattle.table_metadata.specs.Metadata.{IsMetadataOf, metadata_of, json_of, whole_object, parts_of, parts};
@@ -31,8 +32,7 @@ pub fn read_metadata(alloc: Global, bytes: &[u8]) -> Result<Metadata, MetadataFa
 /// The JSON object that the bytes are, in which each number is a whole number of 64 bits. Any other text is the fault `Json`.
 #[tactic(auto, unfolding(crate::specs::Metadata::json_of))]
 pub fn read_json(alloc: Global, bytes: &[u8]) -> Result<Value, MetadataFault>
-    ensures ok { IfOk result (λ json. json_of bytes.now ≡ Ok (view json)) }
-    ensures err { IfErr result (λ f. f ≢ MetadataFault.Memory → json_of bytes.now ≡ Err f) }
+    ensures answers { Answers MetadataFault.Memory (λ json. view json) result (json_of bytes.now) }
 {
     match Value::from_slice(alloc, bytes) {
         Ok(json) => whole_object(json),
@@ -63,9 +63,8 @@ fn whole_object(json: Value) -> Result<Value, MetadataFault>
 
 #[tactic(auto, unfolding(crate::specs::Metadata::parts_of))]
 fn read_parts(alloc: Global, json: Value) -> Result<Metadata, MetadataFault>
-    ensures ok { IfOk result (λ m. parts_of (view json) ≡ Ok (parts m)) }
+    ensures answers { Answers MetadataFault.Memory (λ m. parts m) result (parts_of (view json)) }
     ensures kept { IfOk result (λ m. m.json ≡ json) }
-    ensures err { IfErr result (λ f. f ≢ MetadataFault.Memory → parts_of (view json) ≡ Err f) }
 {
     keys_stand(alloc, &json)?;
     let keys = read_plain_keys(alloc, &json)?;

@@ -1,5 +1,6 @@
 //! The branches and tags of a table's metadata.
-ghost use Rattle.std.specs.Prelude.{◌≡◌, ◌≢◌, ◌≤◌, [], length, IfOk, IfErr, Ok, Err};
+ghost use Rattle.std.specs.Prelude.{◌≡◌, ◌≤◌, [], length, IfOk};
+ghost use Rattle.plain_types.specs.Answers.{Answers};
 ghost use Rattle.serde_json.specs.View.{view, members_view};
 ghost use Rattle.table_metadata.specs.References.{
   is_tag_type,
@@ -37,8 +38,7 @@ pub struct RefItem {
 /// The refs that the metadata lists.
 #[tactic(auto, unfolding(crate::specs::References::listed_refs_of))]
 pub(crate) fn read_listed_refs(alloc: Global, json: &Value) -> Result<Vec<RefItem>, MetadataFault>
-    ensures ok { IfOk result (λ refs. listed_refs_of (view json.now) ≡ Ok refs.items) }
-    ensures err { IfErr result (λ f. f ≢ MetadataFault.Memory → listed_refs_of (view json.now) ≡ Err f) }
+    ensures answers { Answers MetadataFault.Memory (λ refs. refs.items) result (listed_refs_of (view json.now)) }
 {
     match members_at(json, "refs") {
         Some(members) => read_members(alloc, members),
@@ -48,8 +48,7 @@ pub(crate) fn read_listed_refs(alloc: Global, json: &Value) -> Result<Vec<RefIte
 
 #[tactic(auto, unfolding(crate::specs::References::refs_from))]
 fn read_members(alloc: Global, members: &Map<String, Value>) -> Result<Vec<RefItem>, MetadataFault>
-    ensures ok { IfOk result (λ refs. refs_from [] (members_view members.now.entries) ≡ Ok refs.items) }
-    ensures err { IfErr result (λ f. f ≢ MetadataFault.Memory → refs_from [] (members_view members.now.entries) ≡ Err f) }
+    ensures answers { Answers MetadataFault.Memory (λ refs. refs.items) result (refs_from [] (members_view members.now.entries)) }
 {
     let mut refs = Vec::new(alloc);
     for (name, value) in members.iter() {
@@ -61,8 +60,7 @@ fn read_members(alloc: Global, members: &Map<String, Value>) -> Result<Vec<RefIt
 
 #[tactic(auto, unfolding(crate::specs::References::ref_of))]
 fn read_ref(alloc: Global, name: &str, json: &Value) -> Result<RefItem, MetadataFault>
-    ensures ok { IfOk result (λ r. ref_of name.now (view json.now) ≡ Ok r) }
-    ensures err { IfErr result (λ f. f ≢ MetadataFault.Memory → ref_of name.now (view json.now) ≡ Err f) }
+    ensures answers { Answers MetadataFault.Memory (λ r. r) result (ref_of name.now (view json.now)) }
 {
     let snapshot = shaped_long(alloc, json, "snapshot-id")?;
     let type_text = shaped_text(alloc, json, "type")?;
@@ -77,8 +75,7 @@ fn read_ref(alloc: Global, name: &str, json: &Value) -> Result<RefItem, Metadata
 /// Whether a ref's type is that of a tag.
 #[tactic(auto, unfolding(crate::specs::References::is_tag_type))]
 fn is_tag_type(alloc: Global, text: &str) -> Result<bool, MetadataFault>
-    ensures ok { IfOk result (λ b. is_tag_type text.now ≡ Ok b) }
-    ensures err { IfErr result (λ f. f ≢ MetadataFault.Memory → is_tag_type text.now ≡ Err f) }
+    ensures answers { Answers MetadataFault.Memory (λ b. b) result (is_tag_type text.now) }
 {
     if text == "branch" {
         return Ok(false);
@@ -97,8 +94,7 @@ pub(crate) fn check_refs(
     snapshots: &[Snapshot],
     listed: Vec<RefItem>,
 ) -> Result<List<RefItem>, MetadataFault>
-    ensures ok { IfOk result (λ refs. refs_of current snapshots.now listed.items ≡ Ok refs) }
-    ensures err { IfErr result (λ f. f ≢ MetadataFault.Memory → refs_of current snapshots.now listed.items ≡ Err f) }
+    ensures answers { Answers MetadataFault.Memory (λ refs. refs) result (refs_of current snapshots.now listed.items) }
 {
     let refs = all_refs(alloc, current, listed)?;
     all_hold(alloc, current, snapshots, refs.as_slice())?;
@@ -217,8 +213,7 @@ fn all_hold(
     snapshots: &[Snapshot],
     refs: &[RefItem],
 ) -> Result<(), MetadataFault>
-    ensures ok { IfOk result (λ x. all_hold current snapshots.now refs.now ≡ Ok x) }
-    ensures err { IfErr result (λ f. f ≢ MetadataFault.Memory → all_hold current snapshots.now refs.now ≡ Err f) }
+    ensures answers { Answers MetadataFault.Memory (λ x. x) result (all_hold current snapshots.now refs.now) }
 {
     let mut rest = refs;
     while let [reference, after @ ..] = rest {

@@ -1,5 +1,6 @@
 //! All schemas and all partition specs of a table.
-ghost use Rattle.std.specs.Prelude.{◌≡◌, ◌≢◌, [], option_map, IfOk, IfErr, Ok, Err};
+ghost use Rattle.std.specs.Prelude.{◌≡◌, [], option_map};
+ghost use Rattle.plain_types.specs.Answers.{Answers};
 ghost use Rattle.serde_json.specs.View.{view, items_view};
 ghost use Rattle.table_metadata.specs.SchemaList.{schemas_from, schemas_of, columns_with, specs_from, specs_of};
 
@@ -12,8 +13,7 @@ use std::alloc::Global;
 
 #[tactic(auto, unfolding(crate::specs::SchemaList::schemas_of))]
 pub(crate) fn read_schemas(alloc: Global, json: &Value) -> Result<List<TableSchema>, MetadataFault>
-    ensures ok { IfOk result (λ schemas. schemas_of (view json.now) ≡ Ok schemas) }
-    ensures err { IfErr result (λ f. f ≢ MetadataFault.Memory → schemas_of (view json.now) ≡ Err f) }
+    ensures answers { Answers MetadataFault.Memory (λ schemas. schemas) result (schemas_of (view json.now)) }
 {
     match items_at(json, "schemas") {
         Some(items) => read_schema_items(alloc, items),
@@ -23,8 +23,7 @@ pub(crate) fn read_schemas(alloc: Global, json: &Value) -> Result<List<TableSche
 
 #[tactic(auto, unfolding(crate::specs::SchemaList::schemas_from))]
 fn read_schema_items(alloc: Global, items: &[Value]) -> Result<List<TableSchema>, MetadataFault>
-    ensures ok { IfOk result (λ schemas. schemas_from [] (items_view items.now) ≡ Ok schemas) }
-    ensures err { IfErr result (λ f. f ≢ MetadataFault.Memory → schemas_from [] (items_view items.now) ≡ Err f) }
+    ensures answers { Answers MetadataFault.Memory (λ schemas. schemas) result (schemas_from [] (items_view items.now)) }
 {
     let mut schemas = Vec::new(alloc);
     let mut rest = items;
@@ -47,8 +46,7 @@ pub(crate) fn read_specs(
     schemas: &[TableSchema],
     json: &Value,
 ) -> Result<List<Spec>, MetadataFault>
-    ensures ok { IfOk result (λ specs. specs_of current schemas.now (view json.now) ≡ Ok specs) }
-    ensures err { IfErr result (λ f. f ≢ MetadataFault.Memory → specs_of current schemas.now (view json.now) ≡ Err f) }
+    ensures answers { Answers MetadataFault.Memory (λ specs. specs) result (specs_of current schemas.now (view json.now)) }
 {
     let Some(schema) = schema_with(current, schemas) else {
         return Err(shape(alloc, "current-schema-id"));
@@ -65,8 +63,7 @@ fn read_spec_items(
     schema: &TableSchema,
     items: &[Value],
 ) -> Result<List<Spec>, MetadataFault>
-    ensures ok { IfOk result (λ specs. specs_from schema.now.columns [] (items_view items.now) ≡ Ok specs) }
-    ensures err { IfErr result (λ f. f ≢ MetadataFault.Memory → specs_from schema.now.columns [] (items_view items.now) ≡ Err f) }
+    ensures answers { Answers MetadataFault.Memory (λ specs. specs) result (specs_from schema.now.columns [] (items_view items.now)) }
 {
     let mut specs = Vec::new(alloc);
     let mut rest = items;

@@ -1,5 +1,6 @@
 //! The snapshots of a table's metadata.
-ghost use Rattle.std.specs.Prelude.{◌≡◌, ◌≢◌, [], option_and_then, IfOk, IfErr, Ok, Err};
+ghost use Rattle.std.specs.Prelude.{◌≡◌, [], option_and_then};
+ghost use Rattle.plain_types.specs.Answers.{Answers};
 ghost use Rattle.serde_json.specs.View.{view, items_view};
 ghost use Rattle.iceberg_schema.specs.Keys.{in_int, long_of};
 ghost use Rattle.table_metadata.specs.Snapshots.{optional_long, optional_int, operation_in, operation_of, snapshot_of, snapshots_from, snapshots_of};
@@ -27,8 +28,7 @@ pub struct Snapshot {
 
 #[tactic(auto, unfolding(crate::specs::Snapshots::snapshots_of))]
 pub(crate) fn read_snapshots(alloc: Global, json: &Value) -> Result<List<Snapshot>, MetadataFault>
-    ensures ok { IfOk result (λ snapshots. snapshots_of (view json.now) ≡ Ok snapshots) }
-    ensures err { IfErr result (λ f. f ≢ MetadataFault.Memory → snapshots_of (view json.now) ≡ Err f) }
+    ensures answers { Answers MetadataFault.Memory (λ snapshots. snapshots) result (snapshots_of (view json.now)) }
 {
     match items_at(json, "snapshots") {
         Some(items) => read_items(alloc, items),
@@ -38,8 +38,7 @@ pub(crate) fn read_snapshots(alloc: Global, json: &Value) -> Result<List<Snapsho
 
 #[tactic(auto, unfolding(crate::specs::Snapshots::snapshots_from))]
 fn read_items(alloc: Global, items: &[Value]) -> Result<List<Snapshot>, MetadataFault>
-    ensures ok { IfOk result (λ snapshots. snapshots_from [] (items_view items.now) ≡ Ok snapshots) }
-    ensures err { IfErr result (λ f. f ≢ MetadataFault.Memory → snapshots_from [] (items_view items.now) ≡ Err f) }
+    ensures answers { Answers MetadataFault.Memory (λ snapshots. snapshots) result (snapshots_from [] (items_view items.now)) }
 {
     let mut snapshots = Vec::new(alloc);
     let mut rest = items;
@@ -53,8 +52,7 @@ fn read_items(alloc: Global, items: &[Value]) -> Result<List<Snapshot>, Metadata
 
 #[tactic(auto, unfolding(crate::specs::Snapshots::snapshot_of))]
 fn read_snapshot(alloc: Global, json: &Value) -> Result<Snapshot, MetadataFault>
-    ensures ok { IfOk result (λ snapshot. snapshot_of (view json.now) ≡ Ok snapshot) }
-    ensures err { IfErr result (λ f. f ≢ MetadataFault.Memory → snapshot_of (view json.now) ≡ Err f) }
+    ensures answers { Answers MetadataFault.Memory (λ snapshot. snapshot) result (snapshot_of (view json.now)) }
 {
     let id = shaped_long(alloc, json, "snapshot-id")?;
     let seq = shaped_long(alloc, json, "sequence-number")?;
@@ -75,8 +73,7 @@ fn read_snapshot(alloc: Global, json: &Value) -> Result<Snapshot, MetadataFault>
 }
 
 fn optional_long(alloc: Global, json: &Value, key: &str) -> Result<Option<i64>, MetadataFault>
-    ensures ok { IfOk result (λ n. optional_long key.now (view json.now) ≡ Ok n) }
-    ensures err { IfErr result (λ f. f ≢ MetadataFault.Memory → optional_long key.now (view json.now) ≡ Err f) }
+    ensures answers { Answers MetadataFault.Memory (λ n. n) result (optional_long key.now (view json.now)) }
 {
     let Some(value) = json.get(key) else {
         return Ok(None);
@@ -98,8 +95,7 @@ fn int_of(json: &Value) -> Option<i32>
 }
 
 fn optional_int(alloc: Global, json: &Value, key: &str) -> Result<Option<i32>, MetadataFault>
-    ensures ok { IfOk result (λ n. optional_int key.now (view json.now) ≡ Ok n) }
-    ensures err { IfErr result (λ f. f ≢ MetadataFault.Memory → optional_int key.now (view json.now) ≡ Err f) }
+    ensures answers { Answers MetadataFault.Memory (λ n. n) result (optional_int key.now (view json.now)) }
 {
     let Some(value) = json.get(key) else {
         return Ok(None);
@@ -113,8 +109,7 @@ fn optional_int(alloc: Global, json: &Value, key: &str) -> Result<Option<i32>, M
 /// The operation, or the empty text where there is none.
 #[tactic(auto, unfolding(crate::specs::Snapshots::operation_of))]
 fn read_operation(alloc: Global, json: &Value) -> Result<&str, MetadataFault>
-    ensures ok { IfOk result (λ s. operation_of (view json.now) ≡ Ok s.now) }
-    ensures err { IfErr result (λ f. f ≢ MetadataFault.Memory → operation_of (view json.now) ≡ Err f) }
+    ensures answers { Answers MetadataFault.Memory (λ s. s.now) result (operation_of (view json.now)) }
 {
     let Some(summary) = json.get("summary") else {
         return Ok("");
@@ -127,8 +122,7 @@ fn read_operation(alloc: Global, json: &Value) -> Result<&str, MetadataFault>
 
 #[tactic(auto, unfolding(crate::specs::Snapshots::operation_in))]
 fn operation_in(alloc: Global, summary: &Value) -> Result<&str, MetadataFault>
-    ensures ok { IfOk result (λ s. operation_in (view summary.now) ≡ Ok s.now) }
-    ensures err { IfErr result (λ f. f ≢ MetadataFault.Memory → operation_in (view summary.now) ≡ Err f) }
+    ensures answers { Answers MetadataFault.Memory (λ s. s.now) result (operation_in (view summary.now)) }
 {
     let Some(value) = summary.get("operation") else {
         return Ok("");

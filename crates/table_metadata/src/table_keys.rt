@@ -1,5 +1,6 @@
 //! The form of what stands under the keys of a table's metadata.
-ghost use Rattle.std.specs.Prelude.{◌≡◌, ◌≢◌, codes, option_and_then, IfOk, IfErr, Ok, Err};
+ghost use Rattle.std.specs.Prelude.{◌≡◌, ◌≢◌, codes, option_and_then};
+ghost use Rattle.plain_types.specs.Answers.{Answers};
 ghost use Rattle.serde_json.specs.Find.{get};
 ghost use Rattle.serde_json.specs.View.{view, items_view, members_view};
 ghost use Rattle.iceberg_schema.specs.Keys.{long_at, int_at, text_at, items_at, whole_of};
@@ -59,8 +60,7 @@ pub(crate) fn version_of(json: &Value) -> Option<i128>
 
 #[tactic(auto, unfolding(crate::specs::TableKeys::plain_keys_of))]
 pub(crate) fn read_plain_keys(alloc: Global, json: &Value) -> Result<PlainKeys, MetadataFault>
-    ensures ok { IfOk result (λ keys. plain_keys_of (view json.now) ≡ Ok keys) }
-    ensures err { IfErr result (λ f. f ≢ MetadataFault.Memory → plain_keys_of (view json.now) ≡ Err f) }
+    ensures answers { Answers MetadataFault.Memory (λ keys. keys) result (plain_keys_of (view json.now)) }
 {
     if version_of(json).is_none() {
         return Err(shape(alloc, "format-version"));
@@ -94,8 +94,7 @@ fn is_uuid(text: &str) -> bool
 
 #[tactic(auto, unfolding(crate::specs::TableKeys::current_ids_of))]
 pub(crate) fn read_current_ids(alloc: Global, json: &Value) -> Result<CurrentIds, MetadataFault>
-    ensures ok { IfOk result (λ ids. current_ids_of (view json.now) ≡ Ok ids) }
-    ensures err { IfErr result (λ f. f ≢ MetadataFault.Memory → current_ids_of (view json.now) ≡ Err f) }
+    ensures answers { Answers MetadataFault.Memory (λ ids. ids) result (current_ids_of (view json.now)) }
 {
     let schemas = distinct_items(alloc, json, "schemas", "schema-id")?;
     let schema = listed_id(alloc, json, "current-schema-id", "schema-id", schemas)?;
@@ -112,8 +111,7 @@ pub(crate) fn read_current_ids(alloc: Global, json: &Value) -> Result<CurrentIds
 /// The id of the current snapshot, where the table has one, once each optional key has its form.
 #[tactic(auto, unfolding(crate::specs::TableKeys::optional_keys_of))]
 pub(crate) fn read_optional_keys(alloc: Global, json: &Value) -> Result<Option<i64>, MetadataFault>
-    ensures ok { IfOk result (λ current. optional_keys_of (view json.now) ≡ Ok current) }
-    ensures err { IfErr result (λ f. f ≢ MetadataFault.Memory → optional_keys_of (view json.now) ≡ Err f) }
+    ensures answers { Answers MetadataFault.Memory (λ current. current) result (optional_keys_of (view json.now)) }
 {
     properties_shape(alloc, json)?;
     let current = read_current_snapshot(alloc, json)?;
@@ -138,8 +136,7 @@ pub(crate) fn shaped_text<'v>(
     json: &'v Value,
     key: &str,
 ) -> Result<&'v str, MetadataFault>
-    ensures ok { IfOk result (λ s. shaped key.now (text_at key.now (view json.now)) ≡ Ok s.now) }
-    ensures err { IfErr result (λ f. f ≢ MetadataFault.Memory → shaped key.now (text_at key.now (view json.now)) ≡ Err f) }
+    ensures answers { Answers MetadataFault.Memory (λ s. s.now) result (shaped key.now (text_at key.now (view json.now))) }
 {
     match text_at(json, key) {
         Some(text) => Ok(text),
@@ -148,8 +145,7 @@ pub(crate) fn shaped_text<'v>(
 }
 
 pub(crate) fn shaped_long(alloc: Global, json: &Value, key: &str) -> Result<i64, MetadataFault>
-    ensures ok { IfOk result (λ n. shaped key.now (long_at key.now (view json.now)) ≡ Ok n) }
-    ensures err { IfErr result (λ f. f ≢ MetadataFault.Memory → shaped key.now (long_at key.now (view json.now)) ≡ Err f) }
+    ensures answers { Answers MetadataFault.Memory (λ n. n) result (shaped key.now (long_at key.now (view json.now))) }
 {
     match long_at(json, key) {
         Some(number) => Ok(number),
@@ -158,8 +154,7 @@ pub(crate) fn shaped_long(alloc: Global, json: &Value, key: &str) -> Result<i64,
 }
 
 fn shaped_int(alloc: Global, json: &Value, key: &str) -> Result<i32, MetadataFault>
-    ensures ok { IfOk result (λ n. shaped key.now (int_at key.now (view json.now)) ≡ Ok n) }
-    ensures err { IfErr result (λ f. f ≢ MetadataFault.Memory → shaped key.now (int_at key.now (view json.now)) ≡ Err f) }
+    ensures answers { Answers MetadataFault.Memory (λ n. n) result (shaped key.now (int_at key.now (view json.now))) }
 {
     match int_at(json, key) {
         Some(number) => Ok(number),
@@ -174,8 +169,7 @@ fn distinct_items<'v>(
     key: &str,
     id_key: &str,
 ) -> Result<&'v [Value], MetadataFault>
-    ensures ok { IfOk result (λ items. distinct_items key.now id_key.now (view json.now) ≡ Ok (items_view items.now)) }
-    ensures err { IfErr result (λ f. f ≢ MetadataFault.Memory → distinct_items key.now id_key.now (view json.now) ≡ Err f) }
+    ensures answers { Answers MetadataFault.Memory (λ items. items_view items.now) result (distinct_items key.now id_key.now (view json.now)) }
 {
     let Some(items) = items_at(json, key) else {
         return Err(shape(alloc, key));
@@ -194,8 +188,7 @@ fn listed_id(
     id_key: &str,
     items: &[Value],
 ) -> Result<i32, MetadataFault>
-    ensures ok { IfOk result (λ id. listed_id key.now id_key.now (items_view items.now) (view json.now) ≡ Ok id) }
-    ensures err { IfErr result (λ f. f ≢ MetadataFault.Memory → listed_id key.now id_key.now (items_view items.now) (view json.now) ≡ Err f) }
+    ensures answers { Answers MetadataFault.Memory (λ id. id) result (listed_id key.now id_key.now (items_view items.now) (view json.now)) }
 {
     let id = shaped_int(alloc, json, key)?;
     if !has_id(id_key, i64::from(id), items) {
@@ -206,8 +199,7 @@ fn listed_id(
 
 #[tactic(auto, unfolding(crate::specs::TableKeys::properties_shape))]
 pub(crate) fn properties_shape(alloc: Global, json: &Value) -> Result<(), MetadataFault>
-    ensures ok { IfOk result (λ x. properties_shape (view json.now) ≡ Ok x) }
-    ensures err { IfErr result (λ f. f ≢ MetadataFault.Memory → properties_shape (view json.now) ≡ Err f) }
+    ensures answers { Answers MetadataFault.Memory (λ x. x) result (properties_shape (view json.now)) }
 {
     let Some(value) = json.get("properties") else {
         return Ok(());
@@ -224,8 +216,7 @@ pub(crate) fn properties_shape(alloc: Global, json: &Value) -> Result<(), Metada
 /// Null and -1 say that the table has no snapshot.
 #[tactic(auto, unfolding(crate::specs::TableKeys::current_snapshot_of))]
 fn read_current_snapshot(alloc: Global, json: &Value) -> Result<Option<i64>, MetadataFault>
-    ensures ok { IfOk result (λ current. current_snapshot_of (view json.now) ≡ Ok current) }
-    ensures err { IfErr result (λ f. f ≢ MetadataFault.Memory → current_snapshot_of (view json.now) ≡ Err f) }
+    ensures answers { Answers MetadataFault.Memory (λ current. current) result (current_snapshot_of (view json.now)) }
 {
     let Some(value) = json.get("current-snapshot-id") else {
         return Ok(None);
@@ -244,8 +235,7 @@ fn read_current_snapshot(alloc: Global, json: &Value) -> Result<Option<i64>, Met
 
 #[tactic(auto, unfolding(crate::specs::TableKeys::snapshots_shape))]
 fn snapshots_shape(alloc: Global, json: &Value) -> Result<(), MetadataFault>
-    ensures ok { IfOk result (λ x. snapshots_shape (view json.now) ≡ Ok x) }
-    ensures err { IfErr result (λ f. f ≢ MetadataFault.Memory → snapshots_shape (view json.now) ≡ Err f) }
+    ensures answers { Answers MetadataFault.Memory (λ x. x) result (snapshots_shape (view json.now)) }
 {
     let Some(value) = json.get("snapshots") else {
         return Ok(());
@@ -275,8 +265,7 @@ fn are_snapshots(items: &[Value]) -> bool
 
 #[tactic(auto, unfolding(crate::specs::TableKeys::log_shape))]
 fn log_shape(alloc: Global, json: &Value) -> Result<(), MetadataFault>
-    ensures ok { IfOk result (λ x. log_shape (view json.now) ≡ Ok x) }
-    ensures err { IfErr result (λ f. f ≢ MetadataFault.Memory → log_shape (view json.now) ≡ Err f) }
+    ensures answers { Answers MetadataFault.Memory (λ x. x) result (log_shape (view json.now)) }
 {
     let Some(value) = json.get("snapshot-log") else {
         return Ok(());
@@ -289,8 +278,7 @@ fn log_shape(alloc: Global, json: &Value) -> Result<(), MetadataFault>
 
 #[tactic(auto, unfolding(crate::specs::TableKeys::refs_shape))]
 fn refs_shape(alloc: Global, json: &Value) -> Result<(), MetadataFault>
-    ensures ok { IfOk result (λ x. refs_shape (view json.now) ≡ Ok x) }
-    ensures err { IfErr result (λ f. f ≢ MetadataFault.Memory → refs_shape (view json.now) ≡ Err f) }
+    ensures answers { Answers MetadataFault.Memory (λ x. x) result (refs_shape (view json.now)) }
 {
     let Some(value) = json.get("refs") else {
         return Ok(());

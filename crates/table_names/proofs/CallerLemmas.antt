@@ -1,7 +1,9 @@
 -- What other crates cite of the proofs here, by topic.
 
 -- Names that differ in their number, their session or their folder are different, so a file under one leaves the others free.
-pub use Rattle.table_names.proofs.Apart.{after_data, after_metadata, data_names_apart, stands, stays}
+pub use Rattle.table_names.proofs.Apart.{after_metadata, data_names_apart, stands, stays}
+-- Names that are drawn: none, one after another, and of fewer.
+pub use Rattle.table_names.proofs.DrawingLemmas.{draws_more, draws_none, draws_then, draws_then-folder, same_names}
 -- A path below a table's location, of a folder and a name in it.
 pub use Rattle.table_names.proofs.PathNames.{metadata_is}
 -- The current version is the same where the names of versions are, and it is the next one once that is there.

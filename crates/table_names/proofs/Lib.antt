@@ -1,5 +1,6 @@
 mod Apart
 pub mod CallerLemmas
+mod DrawingLemmas
 mod Folders
 mod LeastMissing
 mod PathNames

@@ -1,11 +1,11 @@
 -- The current version is the same where the names of versions are, and it is the next one once that is there.
-use Rattle.std.proofs.Common.{◌≡◌, ℕ, ◌+◌, ◌^◌, ◌<◌, ◌≤◌, List, [], ◌∷◌, filter, Bool, true, false, cond, ◌||◌, nat_eq, nat_lt, Option, Some, None, is_some, refl, sym, ap, subst, ◌∙◌, max, arith, true≢false, ◌==◌}
+use Rattle.std.proofs.Common.{◌≡◌, ℕ, ◌+◌, ◌^◌, ◌<◌, ◌≤◌, List, [], ◌∷◌, filter, Bool, true, false, cond, ◌||◌, nat_eq, nat_lt, Some, None, is_some, refl, sym, ap, subst, ◌∙◌, max, arith, true≢false, ◌==◌}
 use Rattle.std.specs.FinMap as map
 use Rattle.std.specs.FinMap.{contains_key-keys}
 use Rattle.std.specs.List.{list_any}
-use Rattle.std.specs.Ordering.{nat_cmp, is_eq, eq_by_cmp}
+use Rattle.std.specs.Ordering.{nat_cmp, eq_by_cmp}
 use Rattle.std.specs.Cmp.Lexicographic.{slice_cmp, pointwise}
-use Rattle.std.proofs.lemmas.Bool.{ne_eqb, eqb-true}
+use Rattle.std.proofs.lemmas.Bool.{ne_eqb}
 use Rattle.std.proofs.lemmas.Bool.Decides.{nat_tests}
 use Rattle.std.proofs.lemmas.Map.Text.{is_eq-slice_cmp}
 use Rattle.plain_types.proofs.CallerLemmas.{Tells-texts}

@@ -1,6 +1,6 @@
 -- The name of a version is read as its number, so no version that is there is above the current one.
-use Rattle.std.proofs.Common.{◌≡◌, ℕ, zero, suc, ◌+◌, ◌*◌, ◌^◌, ◌<◌, ◌≤◌, List, [], ◌∷◌, ◌++◌, length, get_or, codes, filter, take, Bool, true, false, cond, ◌&&◌, ◌||◌, ◌==◌, nat_eq, nat_lt}
-use Rattle.std.proofs.Common.{Option, Some, None, is_some, IsSome, refl, sym, ap, subst, ◌∙◌, max, arith, true≢false}
+use Rattle.std.proofs.Common.{◌≡◌, ℕ, ◌+◌, ◌*◌, ◌^◌, ◌<◌, ◌≤◌, List, [], ◌∷◌, ◌++◌, length, get_or, codes, filter, take, Bool, true, false, cond, ◌||◌, ◌==◌, nat_eq}
+use Rattle.std.proofs.Common.{Option, Some, None, is_some, refl, sym, ap, ◌∙◌, arith}
 use Rattle.std.specs.FinMap as map
 use Rattle.std.specs.FinMap.{contains_key-keys, slice_cmp-IsAntisymmetric, nat_cmp-IsAntisymmetric}
 use Rattle.std.specs.Fmt.{decimal}
@@ -11,7 +11,6 @@ use Rattle.std.specs.declared.cmp.Ordering.{Ordering}
 use Rattle.std.specs.declared.cmp.Ordering.TheVariants.{Less, Equal, Greater}
 use Rattle.std.specs.Cmp.Lexicographic.{slice_cmp, pointwise}
 use Rattle.std.specs.Str.Parse.{AllDigits, digits_value, digits_value_after}
-use Rattle.std.proofs.Math.Nat.{le-max_left}
 use Rattle.std.proofs.lemmas.Bool.{lt-ltb, eq-eqb, eqb-true, ne_eqb}
 use Rattle.std.proofs.lemmas.Fmt.{decimal_is_IsNumeral, first_decimal}
 use Rattle.std.proofs.lemmas.Str.{digit_value_digit}
@@ -21,7 +20,7 @@ use Rattle.plain_types.specs.Digits.{is_digit, with_digit, digits_from, number_a
 use Rattle.plain_types.proofs.CallerLemmas.{Tells-texts}
 use Rattle.plain_types.specs.Steps.{by_option}
 use Rattle.store_core.specs.Files.{Files, names_with}
-use Rattle.table_names.specs.Versions.{version_prefix, version_name, version_from, version_behind, version_of_name, greatest_version, some_version, version_of}
+use Rattle.table_names.specs.Versions.{version_prefix, version_name, version_from, version_behind, version_of_name, greatest_version, version_of}
 
 -- ---- digits
 

@@ -1,3 +1,4 @@
+pub mod Drawing
 pub mod FileNames
 pub mod Marks
 pub mod Paths

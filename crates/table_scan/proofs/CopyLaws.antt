@@ -26,8 +26,8 @@ use Rattle.table_state.specs.Live.{data_rows}
 use Rattle.change_sets.specs.declared.scanned.ScannedFile.{ScannedFile}
 use Rattle.change_sets.specs.Laid.{without}
 use Rattle.change_sets.specs.Same.{is_among, same_file}
-use Rattle.change_sets.specs.Scanned.{rows_in, rows_in_all}
-use Rattle.table_scan.specs.Parting.{IsParted, entry_of}
+use Rattle.change_sets.specs.Scanned.{entry_of, rows_in, rows_in_all}
+use Rattle.table_scan.specs.Parting.{IsParted}
 use Rattle.table_scan.specs.Scanning.{file_at, files_at, has_hit, in_path_order, place_of, rows_from, scanned_at, with_file, with_rows}
 use Rattle.table_scan.proofs.RowLaws.{rows_stay}
 use Rattle.change_sets.specs.Deciding.{copied_of, removed_of, written_of}

@@ -15,8 +15,7 @@ use Rattle.manifest_files.specs.declared.entry.Entry.{Entry}
 use Rattle.change_sets.specs.declared.scanned.Decision.{Decision}
 use Rattle.change_sets.specs.declared.scanned.LiveRow.{LiveRow}
 use Rattle.change_sets.specs.declared.scanned.ScannedFile.{ScannedFile}
-use Rattle.change_sets.specs.Scanned.{row_of, rows_in}
-use Rattle.table_scan.specs.Parting.{entry_of}
+use Rattle.change_sets.specs.Scanned.{entry_of, row_of, rows_in}
 use Rattle.table_scan.specs.Scanning.{is_hit}
 use Rattle.change_sets.specs.Deciding.{copied_of, hits, is_touched, later_of, left_by, own_of, removed_of, rows_left, touches}
 use Rattle.table_scan.specs.Decisions.{decision_by, decision_for, hit_in, hit_rows}

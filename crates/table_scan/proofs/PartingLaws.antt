@@ -1,24 +1,22 @@
 -- The rows of data files part into those of the files that are scanned and those of the others.
-use Rattle.std.proofs.Common.{◌≡◌, ℕ, ◌+◌, ◌⊎◌, not, Bool, true, false, cond, List, [], ◌∷◌, ◌++◌, append_assoc, append-nil, map, filter, flat_map, take, drop, Result, Ok, Err, refl, sym, ap, ◌∙◌, subst, inl, inr, arith}
+use Rattle.std.proofs.Common.{◌≡◌, ℕ, ◌+◌, not, Bool, true, false, cond, List, [], ◌∷◌, ◌++◌, append_assoc, append-nil, map, filter, take, drop, Ok, refl, sym, ap, ◌∙◌, subst, inl, inr, arith}
 use Rattle.std.specs.List.{list_any}
 use Rattle.std.proofs.lemmas.Grind.{flat_map-append}
-use Rattle.std.proofs.lemmas.List.{map-append, take-append-drop}
+use Rattle.std.proofs.lemmas.List.{take-append-drop}
 use Rattle.plain_types.specs.Bags.{In, SameBag, total}
 use Rattle.plain_types.specs.Steps.{◌>>=◌}
-use Rattle.plain_types.proofs.CallerLemmas.{In-filter, In-flat_map, In-map, SameBag-flat_map, total-append, total-filter, two_steps}
+use Rattle.plain_types.proofs.CallerLemmas.{In-filter, In-flat_map, In-map, SameBag-flat_map, total-append, two_steps}
 use Rattle.row_values.specs.declared.value.Value.{Value}
 use Rattle.sql_predicates.specs.declared.pred.Pred.{Pred}
 use Rattle.sql_statements.specs.Clauses.{holds_on}
 use Rattle.store_core.specs.Files.{Files}
 use Rattle.manifest_files.specs.declared.entry.Entry.{Entry}
 use Rattle.table_metadata.specs.Metadata.{Parts}
-use Rattle.table_state.specs.declared.load_fault.LoadFault.{LoadFault}
 use Rattle.table_state.specs.Files.{data_file_at}
 use Rattle.table_state.specs.Live.{data_rows}
-use Rattle.change_sets.specs.declared.scanned.LiveRow.{LiveRow}
 use Rattle.change_sets.specs.declared.scanned.ScannedFile.{ScannedFile}
-use Rattle.change_sets.specs.Scanned.{row_of, rows_in, rows_in_all}
-use Rattle.table_scan.specs.Parting.{IsParted, entry_of}
+use Rattle.change_sets.specs.Scanned.{entry_of, row_of, rows_in, rows_in_all}
+use Rattle.table_scan.specs.Parting.{IsParted}
 use Rattle.table_scan.specs.Scanning.{file_at, files_at, has_hit, is_hit, in_path_order, live_rows, place_of, scanned_at, with_file, with_rows}
 use Rattle.table_scan.proofs.RowLaws.{missed, rows_stay}
 

@@ -6,7 +6,7 @@ use Rattle.std.proofs.lemmas.Bool.{and_parts, or_parts}
 use Rattle.plain_types.specs.Bags.{In}
 use Rattle.row_values.specs.declared.schema.Column.{Column}
 use Rattle.row_values.specs.declared.value.Value.{Value}
-use Rattle.row_values.specs.Rows.{is_row, AreRows}
+use Rattle.row_values.specs.Rows.{is_row}
 use Rattle.sql_predicates.specs.declared.pred.Pred.{Pred}
 use Rattle.sql_predicates.specs.Positions.{pred_is_within}
 use Rattle.sql_statements.specs.Clauses.{holds_on}

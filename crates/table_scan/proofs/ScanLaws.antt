@@ -1,7 +1,5 @@
 -- A scan file by file gives what it gives of all files.
-use Rattle.std.proofs.Common.{◌≡◌, ◌≢◌, ◌≤◌, ◌-◌, ℕ, get_or, take, drop, length, arith, Bool, true, false, List, [], ◌∷◌, ◌++◌, filter, cond, Option, Result, Ok, Err, refl, sym, ap, ◌∙◌, append-nil}
-use Rattle.std.specs.Option.{ForSome}
-use Rattle.std.specs.Result.{IfErr, IfOk}
+use Rattle.std.proofs.Common.{◌≡◌, ◌≤◌, ◌-◌, ℕ, get_or, take, drop, length, arith, Bool, true, false, List, [], ◌∷◌, ◌++◌, filter, cond, Result, Ok, Err, refl, sym, ap, ◌∙◌, append-nil}
 use Rattle.std.proofs.lemmas.List.{take_all}
 use Rattle.std.proofs.lemmas.List.Elements.{filter-append}
 use Rattle.plain_types.specs.Steps.{◌>>=◌}
@@ -10,7 +8,6 @@ use Rattle.store_core.specs.Files.{Files}
 use Rattle.manifest_files.specs.declared.entry.Entry.{Entry}
 use Rattle.table_metadata.specs.Metadata.{Parts}
 use Rattle.table_state.specs.declared.load_fault.LoadFault.{LoadFault}
-use Rattle.table_state.specs.declared.load_fault.LoadFault.TheVariants as fault
 use Rattle.change_sets.specs.declared.scanned.ScannedFile.{ScannedFile}
 use Rattle.table_scan.specs.Scanning.{file_at, files_at, has_hit, in_path_order, scanned_at, scanned_from, with_file, with_hit}
 
@@ -67,14 +64,3 @@ module _ (table : List ℕ) (parts : Parts) (pred : Pred) (files : Files) where
       ∙ sym (ap (λ r. r >>= λ found. scanned_from table parts pred (with_hit found scanned) rest files) found)
 
 -- ---- the same answer under another name
-
-module _ {A : Type 0} (told : Option Files) (first second : Files → Result A LoadFault) (agree : (files : Files) → first files ≡ second files) where
-  pub ok_as : (r : Result A LoadFault) → IfOk r (λ x. ForSome told (λ files. first files ≡ Ok x)) → IfOk r (λ x. ForSome told (λ files. second files ≡ Ok x))
-  ok_as (Ok x) h = λ files is. sym (agree files) ∙ h files is
-  ok_as (Err f) h = tt
-
-  pub err_as : (r : Result A LoadFault) → IfErr r (λ f. f ≢ fault.Store → f ≢ fault.Memory
-      → ForSome told (λ files. first files ≡ Err f)) → IfErr r (λ f. f ≢ fault.Store → f ≢ fault.Memory
-      → ForSome told (λ files. second files ≡ Err f))
-  err_as (Ok x) h = tt
-  err_as (Err f) h = λ store memory files is. sym (agree files) ∙ h store memory files is

@@ -1,5 +1,5 @@
 -- What is scanned stands when files are added.
-use Rattle.std.proofs.Common.{◌≡◌, ℕ, List, [], ◌∷◌, ◌++◌, Some, Ok, filter}
+use Rattle.std.proofs.Common.{ℕ, List, [], ◌∷◌, ◌++◌, Some, Ok, filter}
 use Rattle.sql_predicates.specs.declared.pred.Pred.{Pred}
 use Rattle.store_core.specs.Files.{Files, KeepsFiles}
 use Rattle.manifest_files.specs.declared.entry.Entry.{Entry}

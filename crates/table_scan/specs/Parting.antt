@@ -1,6 +1,5 @@
 -- How the rows of a branch part into those of the files that a scan gives and those of the others.
 use Rattle.std.specs.Prelude.{◌≡◌, ℕ, false, List, [], ◌++◌, map, Ok}
-use Rattle.std.specs.List.{flat_map}
 use Rattle.plain_types.specs.Bags.{In, SameBag}
 use Rattle.row_values.specs.declared.value.Value.{Value}
 use Rattle.sql_predicates.specs.declared.pred.Pred.{Pred}
@@ -10,11 +9,8 @@ use Rattle.manifest_files.specs.declared.entry.Entry.{Entry}
 use Rattle.table_metadata.specs.Metadata.{Parts}
 use Rattle.table_state.specs.Live.{data_rows}
 use Rattle.change_sets.specs.declared.scanned.ScannedFile.{ScannedFile}
-use Rattle.change_sets.specs.Scanned.{rows_in, rows_in_all}
+use Rattle.change_sets.specs.Scanned.{entry_of, rows_in_all}
 use Rattle.table_scan.specs.Scanning.{files_at}
-
-abbrev pub entry_of : ScannedFile → Entry
-entry_of file = file.entry
 
 -- the data files are those that are scanned and others, of which no row is hit
 pub record IsParted (table : List ℕ) (parts : Parts) (pred : Pred) (entries : List Entry) (files : Files) (scanned : List ScannedFile) : Type 0 where

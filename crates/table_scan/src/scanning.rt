@@ -1,6 +1,7 @@
 //! Reads the data files of a branch, and keeps those with a row that is hit.
-ghost use Rattle.std.specs.Prelude.{◌≡◌, ◌≢◌, ◌<◌, ◌≤◌, ◌+◌, [], ◌∷◌, length, Ok, Err, IfOk, IfErr, IsErrOf};
+ghost use Rattle.std.specs.Prelude.{◌≡◌, ◌<◌, ◌≤◌, ◌+◌, [], ◌∷◌, length, IfOk, IsErrOf};
 ghost use Rattle.std.specs.Option.{ForSome};
+ghost use Rattle.plain_types.specs.Answers.{AnswersTold};
 ghost use Rattle.plain_types.specs.Causes.{HasCause};
 ghost use Rattle.table_metadata.specs.Metadata.{parts};
 ghost use Rattle.table_state.specs.Live.{data_files_of};
@@ -25,12 +26,9 @@ fn read_file<S: Store>(
     entry: &Entry,
 ) -> Result<ScannedFile, LoadFault>
     requires { ReadsCurrent (parts state.now.metadata) filter.now }
-    ensures ok { IfOk result (λ file. ForSome (S.files store.old)
-        (λ files. file_at state.now.table (parts state.now.metadata) filter.now entry.now files ≡ Ok file)) }
+    ensures answers { AnswersTold LoadFault.Store LoadFault.Memory (λ file. file)
+        result (S.files store.old) (λ files. file_at state.now.table (parts state.now.metadata) filter.now entry.now files) }
     ensures rows { IfOk result (λ file. AreCurrentFiles (parts state.now.metadata) (file ∷ [])) }
-    ensures err { IfErr result (λ f. f ≢ LoadFault.Store → f ≢ LoadFault.Memory
-        → ForSome (S.files store.old)
-        (λ files. file_at state.now.table (parts state.now.metadata) filter.now entry.now files ≡ Err f)) }
     ensures files { S.files store.new ≡ S.files store.old }
     ensures unsettled { IsErrOf result LoadFault.Store → 0 < S.unsettled store.new }
     ensures cause { HasCause LoadFault.Store LoadFault.Memory (S.faults store.old) (S.faults store.new) result }
@@ -56,12 +54,9 @@ fn scan_files<S: Store>(
     entries: &[Entry],
 ) -> Result<List<ScannedFile>, LoadFault>
     requires { ReadsCurrent (parts state.now.metadata) filter.now }
-    ensures ok { IfOk result (λ scanned. ForSome (S.files store.old)
-        (λ files. scanned_from state.now.table (parts state.now.metadata) filter.now [] entries.now files ≡ Ok scanned)) }
+    ensures answers { AnswersTold LoadFault.Store LoadFault.Memory (λ scanned. scanned)
+        result (S.files store.old) (λ files. scanned_from state.now.table (parts state.now.metadata) filter.now [] entries.now files) }
     ensures rows { IfOk result (λ scanned. AreCurrentFiles (parts state.now.metadata) scanned) }
-    ensures err { IfErr result (λ f. f ≢ LoadFault.Store → f ≢ LoadFault.Memory
-        → ForSome (S.files store.old)
-        (λ files. scanned_from state.now.table (parts state.now.metadata) filter.now [] entries.now files ≡ Err f)) }
     ensures files { S.files store.new ≡ S.files store.old }
     ensures unsettled { IsErrOf result LoadFault.Store → 0 < S.unsettled store.new }
     ensures cause { HasCause LoadFault.Store LoadFault.Memory (S.faults store.old) (S.faults store.new) result }
@@ -86,12 +81,9 @@ pub fn scan<S: Store>(
     filter: &Pred,
 ) -> Result<List<ScannedFile>, LoadFault>
     requires { ReadsCurrent (parts state.now.metadata) filter.now }
-    ensures ok { IfOk result (λ scanned. ForSome (S.files store.old)
-        (λ files. scanned_at state.now.table (parts state.now.metadata) filter.now (data_files_of state.now.head) files ≡ Ok scanned)) }
+    ensures answers { AnswersTold LoadFault.Store LoadFault.Memory (λ scanned. scanned)
+        result (S.files store.old) (λ files. scanned_at state.now.table (parts state.now.metadata) filter.now (data_files_of state.now.head) files) }
     ensures rows { IfOk result (λ scanned. AreCurrentFiles (parts state.now.metadata) scanned) }
-    ensures err { IfErr result (λ f. f ≢ LoadFault.Store → f ≢ LoadFault.Memory
-        → ForSome (S.files store.old)
-        (λ files. scanned_at state.now.table (parts state.now.metadata) filter.now (data_files_of state.now.head) files ≡ Err f)) }
     ensures files { S.files store.new ≡ S.files store.old }
     ensures unsettled { IsErrOf result LoadFault.Store → 0 < S.unsettled store.new }
     ensures cause { HasCause LoadFault.Store LoadFault.Memory (S.faults store.old) (S.faults store.new) result }

@@ -1,5 +1,5 @@
 -- What is gathered manifest by manifest is the live set of all entries, and the counts.
-use Rattle.std.proofs.Common.{◌≡◌, ℕ, ℤ, not, List, [], ◌∷◌, ◌++◌, filter, length, Result, Ok, Err, refl, sym, ap, ◌∙◌, append_assoc, arith}
+use Rattle.std.proofs.Common.{◌≡◌, ℕ, not, List, [], ◌∷◌, ◌++◌, filter, length, Result, Ok, Err, refl, sym, ap, ◌∙◌, append_assoc, arith}
 use Rattle.std.proofs.lemmas.List.Elements.{filter-append}
 use Rattle.plain_types.specs.Steps.{◌>>=◌}
 use Rattle.store_core.specs.Files.{Files}
@@ -10,7 +10,7 @@ use Rattle.table_state.specs.declared.load_fault.LoadFault.{LoadFault}
 use Rattle.table_state.specs.Files.{manifest_at}
 use Rattle.table_state.specs.Live.{is_data, is_live, entries_at, set_of}
 use Rattle.table_state.specs.declared.state.LiveCount.{LiveCount}
-use Rattle.table_state.specs.Gathering.{Gathered, and_manifest, count_of, gathered_at, live_data, live_deletes, nothing, set_in}
+use Rattle.table_state.specs.Gathering.{Gathered, and_manifest, count_of, gathered_at, live_data, live_deletes, set_in}
 use Rattle.table_state.specs.States.{counts_at}
 
 -- the live sets are the same, and so are the counts, or the fault is

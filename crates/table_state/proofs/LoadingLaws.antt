@@ -2,7 +2,6 @@
 use Rattle.std.proofs.Common.{◌≡◌, ℕ, nat_eq, ℤ, Bool, true, false, codes, List, [], Option, Some, None, Result, Ok, Err, refl, sym, ap, ◌∙◌, subst}
 use Rattle.std.specs.Prelude.{if◌then◌else◌}
 use Rattle.std.specs.Cmp.Lexicographic.{pointwise}
-use Rattle.std.specs.FinMap as map
 use Rattle.plain_types.specs.Steps.{◌>>=◌, or_fault, by_option, fault_as}
 use Rattle.store_core.specs.Files.{Files}
 use Rattle.manifest_files.specs.declared.entry.Entry.{Entry}

@@ -1,5 +1,5 @@
 -- How many files are read.
-use Rattle.std.proofs.Common.{◌≡◌, ℕ, ◌+◌, ◌≤◌, List, [], length, Result, Ok, Err, refl, sym, ap, subst, ◌∙◌, arith}
+use Rattle.std.proofs.Common.{◌≡◌, ℕ, ◌+◌, ◌≤◌, List, length, Result, Ok, sym, ap, subst, ◌∙◌, arith}
 use Rattle.plain_types.specs.Causes.{bump}
 use Rattle.plain_types.specs.Steps.{◌>>=◌, fault_as, or_fault}
 use Rattle.store_core.specs.Files.{Files}

@@ -1,5 +1,5 @@
 -- What the files of a table say stands when files are added.
-use Rattle.std.proofs.Common.{◌≡◌, ℕ, ℤ, List, [], ◌∷◌, ◌++◌, Option, Some, None, Result, Ok, Err, refl, sym, subst}
+use Rattle.std.proofs.Common.{◌≡◌, ℕ, ℤ, List, [], ◌∷◌, ◌++◌, Option, Some, None, Result, Ok, refl, sym, subst}
 use Rattle.std.specs.FinMap as map
 use Rattle.plain_types.specs.Steps.{◌>>=◌, or_fault, by_option, fault_as}
 use Rattle.row_values.specs.declared.value.Value.{Value}
@@ -12,7 +12,6 @@ use Rattle.table_metadata.specs.declared.metadata_fault.MetadataFault.TheVariant
 use Rattle.table_metadata.specs.declared.snapshots.Snapshot.{Snapshot}
 use Rattle.table_state.specs.declared.load_fault.LoadFault.{LoadFault}
 use Rattle.table_state.specs.declared.load_fault.LoadFault.TheVariants as fault
-use Rattle.table_state.specs.declared.live_set.BranchState.{BranchState}
 use Rattle.table_state.specs.declared.live_set.BranchState.TheVariants as state
 use Rattle.table_names.specs.Paths.{name_of}
 use Rattle.table_names.specs.Versions.{version_name}

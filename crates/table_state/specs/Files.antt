@@ -1,5 +1,5 @@
 -- What the files of a table hold, by the paths that the table's own files name them by, or why that can't be said.
-use Rattle.std.specs.Prelude.{◌≡◌, ℕ, ℤ, codes, List, [], ◌∷◌, Option, Some, None, Result, if◌then◌else◌, Ok}
+use Rattle.std.specs.Prelude.{◌≡◌, ℕ, codes, List, Result, Ok}
 use Rattle.std.specs.FinMap as map
 use Rattle.plain_types.specs.Steps.{◌>>=◌, or_fault, fault_as}
 use Rattle.row_values.specs.declared.value.Value.{Value}

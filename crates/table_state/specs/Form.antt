@@ -17,38 +17,38 @@ use Rattle.table_metadata.specs.declared.properties.Properties.{Properties}
 use Rattle.table_metadata.specs.declared.properties.WriteMode.{WriteMode}
 use Rattle.table_metadata.specs.References.{is_main}
 
-abbrev pub is_plain_kind : Kind → Bool
-is_plain_kind kind.Long = true
-is_plain_kind kind.Text = true
-is_plain_kind _ = false
+abbrev pub kind_in_form : Kind → Bool
+kind_in_form kind.Long = true
+kind_in_form kind.Text = true
+kind_in_form _ = false
 
-abbrev pub is_plain_column : Column → Bool
-is_plain_column column = is_plain_kind column.kind
+abbrev pub column_in_form : Column → Bool
+column_in_form column = kind_in_form column.kind
 
 -- the schema has plain columns, where it is the current one
-abbrev pub is_plain_schema : ℤ → TableSchema → Bool
-is_plain_schema current schema = if int_eq schema.id current then list_all is_plain_column schema.columns else true
+abbrev pub schema_in_form : ℤ → TableSchema → Bool
+schema_in_form current schema = if int_eq schema.id current then list_all column_in_form schema.columns else true
 
 abbrev pub is_unpartitioned : Spec → Bool
 is_unpartitioned spec = length spec.fields == 0
 
 -- copy-on-write, at the serializable level
-abbrev pub is_plain_mode : WriteMode → Bool
-is_plain_mode mode = not mode.on_read && not mode.snapshot_level
+abbrev pub mode_in_form : WriteMode → Bool
+mode_in_form mode = not mode.on_read && not mode.snapshot_level
 
-abbrev pub is_plain_writing : Properties → Bool
-is_plain_writing p = is_plain_mode p.delete && is_plain_mode p.update && is_plain_mode p.merge && p.retries == 4 && p.least_to_merge == 100 && p.merge_enabled
+abbrev pub writing_in_form : Properties → Bool
+writing_in_form p = mode_in_form p.delete && mode_in_form p.update && mode_in_form p.merge && p.retries == 4 && p.least_to_merge == 100 && p.merge_enabled
 
 -- the version, its sequence number and the length of its location
 abbrev pub is_within_limits : ℕ → Parts → Bool
 is_within_limits version p = nat_lt version (2 ^ 31) && int_lt p.last_sequence (pos (2 ^ 62)) && nat_le (length p.location) 4096
 
 -- what a commit leaves as it is
-abbrev pub is_plain_table : Parts → Bool
-is_plain_table p = list_all (is_plain_schema p.current_schema) p.schemas && (list_all is_unpartitioned p.specs && (is_plain_writing p.properties && list_all is_main p.refs))
+abbrev pub table_in_form : Parts → Bool
+table_in_form p = list_all (schema_in_form p.current_schema) p.schemas && (list_all is_unpartitioned p.specs && (writing_in_form p.properties && list_all is_main p.refs))
 
 abbrev pub has_form : ℕ → Parts → Bool
-has_form version p = is_within_limits version p && is_plain_table p
+has_form version p = is_within_limits version p && table_in_form p
 
 -- ---- manifests
 

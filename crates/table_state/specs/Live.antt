@@ -1,7 +1,6 @@
 -- The files that are live in a branch, and its rows (Iceberg specification, "Snapshots", "Manifest Lists" and "Manifests").
 use Rattle.std.specs.Prelude.{ℕ, nat_eq, ℤ, Bool, true, false, not, ◌&&◌, codes, List, [], ◌∷◌, ◌++◌, filter, Option, Some, None, Result, Ok, if◌then◌else◌}
 use Rattle.std.specs.Cmp.Lexicographic.{pointwise}
-use Rattle.std.specs.Ordering.{int_eq}
 use Rattle.plain_types.specs.Steps.{◌>>=◌, or_fault, by_option}
 use Rattle.row_values.specs.declared.value.Value.{Value}
 use Rattle.store_core.specs.Files.{Files}

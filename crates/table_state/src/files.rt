@@ -1,6 +1,7 @@
 // One file of a table at a time.
-ghost use Rattle.std.specs.Prelude.{◌≡◌, ◌≢◌, ◌<◌, ◌≤◌, ◌+◌, Ok, Err, IfOk, IfErr, IsErrOf};
+ghost use Rattle.std.specs.Prelude.{◌≡◌, ◌<◌, ◌≤◌, ◌+◌, IfOk, IsErrOf};
 ghost use Rattle.std.specs.Option.{ForSome};
+ghost use Rattle.plain_types.specs.Answers.{Answers, AnswersTold};
 ghost use Rattle.plain_types.specs.Causes.{HasCause};
 ghost use Rattle.table_metadata.specs.Metadata.{parts};
 ghost use Rattle.table_state.specs.Files.{
@@ -24,7 +25,7 @@ use plain_types::{List, Text};
 use row_values::{Row, TableSchema};
 use std::alloc::Global;
 use store_core::{Blob, ReadAnswer, Store};
-use table_metadata::{Metadata, MetadataFault, schema_with, spec_with};
+use table_metadata::{Metadata, MetadataFault, current_schema, spec_with};
 use table_names::name_of;
 
 // The bytes under a name of the store, which the table knows by this path.
@@ -35,9 +36,7 @@ fn read_name<S: Store>(
     path: &str,
     name: &str,
 ) -> Result<Blob, LoadFault>
-    ensures ok { IfOk result (λ bytes. ForSome (S.files store.old) (λ files. bytes_under path.now name.now files ≡ Ok bytes)) }
-    ensures err { IfErr result (λ f. f ≢ LoadFault.Store → f ≢ LoadFault.Memory
-        → ForSome (S.files store.old) (λ files. bytes_under path.now name.now files ≡ Err f)) }
+    ensures answers { AnswersTold LoadFault.Store LoadFault.Memory (λ bytes. bytes) result (S.files store.old) (λ files. bytes_under path.now name.now files) }
     ensures files { S.files store.new ≡ S.files store.old }
     ensures unsettled { IsErrOf result LoadFault.Store → 0 < S.unsettled store.new }
     ensures cause { HasCause LoadFault.Store LoadFault.Memory (S.faults store.old) (S.faults store.new) result }
@@ -59,9 +58,7 @@ pub fn read_file<S: Store>(
     location: &str,
     path: &str,
 ) -> Result<Blob, LoadFault>
-    ensures ok { IfOk result (λ bytes. ForSome (S.files store.old) (λ files. file_at table.now location.now path.now files ≡ Ok bytes)) }
-    ensures err { IfErr result (λ f. f ≢ LoadFault.Store → f ≢ LoadFault.Memory
-        → ForSome (S.files store.old) (λ files. file_at table.now location.now path.now files ≡ Err f)) }
+    ensures answers { AnswersTold LoadFault.Store LoadFault.Memory (λ bytes. bytes) result (S.files store.old) (λ files. file_at table.now location.now path.now files) }
     ensures files { S.files store.new ≡ S.files store.old }
     ensures unsettled { IsErrOf result LoadFault.Store → 0 < S.unsettled store.new }
     ensures cause { HasCause LoadFault.Store LoadFault.Memory (S.faults store.old) (S.faults store.new) result }
@@ -74,12 +71,11 @@ pub fn read_file<S: Store>(
 }
 
 // The current schema, which all metadata that was read has.
-fn current_schema(alloc: Global, metadata: &Metadata) -> Result<&TableSchema, LoadFault>
-    ensures ok { IfOk result (λ schema. current_schema (parts metadata.now) ≡ Ok schema.now) }
-    ensures err { IfErr result (λ f. f ≢ LoadFault.Store → f ≢ LoadFault.Memory → current_schema (parts metadata.now) ≡ Err f) }
+fn needed_schema(alloc: Global, metadata: &Metadata) -> Result<&TableSchema, LoadFault>
+    ensures answers { Answers LoadFault.Memory (λ schema. schema.now) result (current_schema (parts metadata.now)) }
     ensures inside { IsErrOf result LoadFault.Store → ⊥ }
 {
-    match schema_with(metadata.current_schema, metadata.schemas.as_slice()) {
+    match current_schema(metadata) {
         Some(schema) => Ok(schema),
         None => {
             let key = Text::copy_of(alloc, "current-schema-id")?;
@@ -89,8 +85,7 @@ fn current_schema(alloc: Global, metadata: &Metadata) -> Result<&TableSchema, Lo
 }
 
 fn list_in(alloc: Global, path: &str, bytes: &[u8]) -> Result<List<ManifestRow>, LoadFault>
-    ensures ok { IfOk result (λ rows. list_in path.now bytes.now ≡ Ok rows) }
-    ensures err { IfErr result (λ f. f ≢ LoadFault.Store → f ≢ LoadFault.Memory → list_in path.now bytes.now ≡ Err f) }
+    ensures answers { Answers LoadFault.Memory (λ rows. rows) result (list_in path.now bytes.now) }
     ensures inside { IsErrOf result LoadFault.Store → ⊥ }
 {
     match read_list(alloc, bytes) {
@@ -108,9 +103,8 @@ pub fn read_list_at<S: Store>(
     metadata: &Metadata,
     path: &str,
 ) -> Result<List<ManifestRow>, LoadFault>
-    ensures ok { IfOk result (λ rows. ForSome (S.files store.old) (λ files. list_at table.now (parts metadata.now) path.now files ≡ Ok rows)) }
-    ensures err { IfErr result (λ f. f ≢ LoadFault.Store → f ≢ LoadFault.Memory
-        → ForSome (S.files store.old) (λ files. list_at table.now (parts metadata.now) path.now files ≡ Err f)) }
+    ensures answers { AnswersTold LoadFault.Store LoadFault.Memory (λ rows. rows)
+        result (S.files store.old) (λ files. list_at table.now (parts metadata.now) path.now files) }
     ensures files { S.files store.new ≡ S.files store.old }
     ensures unsettled { IsErrOf result LoadFault.Store → 0 < S.unsettled store.new }
     ensures cause { HasCause LoadFault.Store LoadFault.Memory (S.faults store.old) (S.faults store.new) result }
@@ -129,15 +123,14 @@ fn entries_in(
     row: &ManifestRow,
     bytes: &[u8],
 ) -> Result<List<Entry>, LoadFault>
-    ensures ok { IfOk result (λ entries. entries_in (parts metadata.now) row.now bytes.now ≡ Ok entries) }
-    ensures err { IfErr result (λ f. f ≢ LoadFault.Store → f ≢ LoadFault.Memory → entries_in (parts metadata.now) row.now bytes.now ≡ Err f) }
+    ensures answers { Answers LoadFault.Memory (λ entries. entries) result (entries_in (parts metadata.now) row.now bytes.now) }
     ensures inside { IsErrOf result LoadFault.Store → ⊥ }
 {
     let Some(spec) = spec_with(row.partition_spec_id, metadata.specs.as_slice()) else {
         let path = Text::copy_of(alloc, row.manifest_path.as_str())?;
         return Err(LoadFault::Manifest(path, ManifestFault::Spec(row.partition_spec_id)));
     };
-    let schema = current_schema(alloc, metadata)?;
+    let schema = needed_schema(alloc, metadata)?;
     match read_manifest(alloc, bytes, row, spec, schema) {
         Ok(entries) => Ok(entries),
         Err(fault) => {
@@ -156,9 +149,8 @@ pub fn read_manifest_at<S: Store>(
     metadata: &Metadata,
     row: &ManifestRow,
 ) -> Result<List<Entry>, LoadFault>
-    ensures ok { IfOk result (λ entries. ForSome (S.files store.old) (λ files. manifest_at table.now (parts metadata.now) row.now files ≡ Ok entries)) }
-    ensures err { IfErr result (λ f. f ≢ LoadFault.Store → f ≢ LoadFault.Memory
-        → ForSome (S.files store.old) (λ files. manifest_at table.now (parts metadata.now) row.now files ≡ Err f)) }
+    ensures answers { AnswersTold LoadFault.Store LoadFault.Memory (λ entries. entries)
+        result (S.files store.old) (λ files. manifest_at table.now (parts metadata.now) row.now files) }
     ensures files { S.files store.new ≡ S.files store.old }
     ensures unsettled { IsErrOf result LoadFault.Store → 0 < S.unsettled store.new }
     ensures cause { HasCause LoadFault.Store LoadFault.Memory (S.faults store.old) (S.faults store.new) result }
@@ -183,16 +175,15 @@ fn rows_in(
     path: &str,
     bytes: &[u8],
 ) -> Result<List<Row>, LoadFault>
-    ensures ok { IfOk result (λ rows. rows_in (parts metadata.now) path.now bytes.now ≡ Ok rows) }
+    ensures answers { Answers LoadFault.Memory (λ rows. rows) result (rows_in (parts metadata.now) path.now bytes.now) }
     ensures rows { IfOk result (λ rows. AreCurrentRows (parts metadata.now) rows) }
-    ensures err { IfErr result (λ f. f ≢ LoadFault.Store → f ≢ LoadFault.Memory → rows_in (parts metadata.now) path.now bytes.now ≡ Err f) }
     ensures inside { IsErrOf result LoadFault.Store → ⊥ }
 {
     let container = match read_container(alloc, bytes) {
         Ok(container) => container,
         Err(fault) => return Err(container_fault(Text::copy_of(alloc, path)?, fault)),
     };
-    let schema = current_schema(alloc, metadata)?;
+    let schema = needed_schema(alloc, metadata)?;
     match read_rows(alloc, &container, schema) {
         Ok(rows) => Ok(rows),
         Err(fault) => Err(rows_fault(Text::copy_of(alloc, path)?, fault)),
@@ -208,10 +199,9 @@ pub fn read_data_file_at<S: Store>(
     metadata: &Metadata,
     path: &str,
 ) -> Result<List<Row>, LoadFault>
-    ensures ok { IfOk result (λ rows. ForSome (S.files store.old) (λ files. data_file_at table.now (parts metadata.now) path.now files ≡ Ok rows)) }
+    ensures answers { AnswersTold LoadFault.Store LoadFault.Memory (λ rows. rows)
+        result (S.files store.old) (λ files. data_file_at table.now (parts metadata.now) path.now files) }
     ensures rows { IfOk result (λ rows. AreCurrentRows (parts metadata.now) rows) }
-    ensures err { IfErr result (λ f. f ≢ LoadFault.Store → f ≢ LoadFault.Memory
-        → ForSome (S.files store.old) (λ files. data_file_at table.now (parts metadata.now) path.now files ≡ Err f)) }
     ensures files { S.files store.new ≡ S.files store.old }
     ensures unsettled { IsErrOf result LoadFault.Store → 0 < S.unsettled store.new }
     ensures cause { HasCause LoadFault.Store LoadFault.Memory (S.faults store.old) (S.faults store.new) result }

@@ -8,12 +8,12 @@ ghost use Rattle.table_state.specs.Form.{
   has_form,
   is_data_manifest,
   is_data_manifest_content,
-  is_plain_column,
-  is_plain_kind,
-  is_plain_mode,
-  is_plain_schema,
-  is_plain_table,
-  is_plain_writing,
+  column_in_form,
+  kind_in_form,
+  mode_in_form,
+  schema_in_form,
+  table_in_form,
+  writing_in_form,
   is_unpartitioned,
   is_within_limits,
 };
@@ -33,15 +33,15 @@ const LONGEST_LOCATION: usize = 4096;
 pub fn has_form(version: u32, metadata: &Metadata) -> bool
     ensures { result ≡ has_form version (parts metadata.now) }
 {
-    is_within_limits(version, metadata) && is_plain_table(metadata)
+    is_within_limits(version, metadata) && table_in_form(metadata)
 }
 
-fn is_plain_table(metadata: &Metadata) -> bool
-    ensures { result ≡ is_plain_table (parts metadata.now) }
+fn table_in_form(metadata: &Metadata) -> bool
+    ensures { result ≡ table_in_form (parts metadata.now) }
 {
     are_plain_schemas(metadata.current_schema, metadata.schemas.as_slice())
         && are_unpartitioned(metadata.specs.as_slice())
-        && is_plain_writing(&metadata.properties)
+        && writing_in_form(&metadata.properties)
         && are_main(metadata.refs.as_slice())
 }
 
@@ -54,28 +54,26 @@ fn is_within_limits(version: u32, metadata: &Metadata) -> bool
 }
 
 fn are_plain_schemas(current: i32, schemas: &[TableSchema]) -> bool
-    ensures { result ≡ list_all (is_plain_schema current) schemas.now }
+    ensures { result ≡ list_all (schema_in_form current) schemas.now }
 {
-    schemas
-        .iter()
-        .all(|schema| is_plain_schema(current, schema))
+    schemas.iter().all(|schema| schema_in_form(current, schema))
 }
 
-fn is_plain_schema(current: i32, schema: &TableSchema) -> bool
-    ensures { result ≡ is_plain_schema current schema.now }
+fn schema_in_form(current: i32, schema: &TableSchema) -> bool
+    ensures { result ≡ schema_in_form current schema.now }
 {
-    schema.id != current || are_plain_columns(schema.columns.as_slice())
+    schema.id != current || columns_in_form(schema.columns.as_slice())
 }
 
 /// Whether all the columns are of a kind that is read so far.
-pub fn are_plain_columns(columns: &[Column]) -> bool
-    ensures { result ≡ list_all is_plain_column columns.now }
+pub fn columns_in_form(columns: &[Column]) -> bool
+    ensures { result ≡ list_all column_in_form columns.now }
 {
-    columns.iter().all(|column| is_plain_kind(column.kind))
+    columns.iter().all(|column| kind_in_form(column.kind))
 }
 
-fn is_plain_kind(kind: Kind) -> bool
-    ensures { result ≡ is_plain_kind kind }
+fn kind_in_form(kind: Kind) -> bool
+    ensures { result ≡ kind_in_form kind }
 {
     matches!(kind, Kind::Long | Kind::Text)
 }
@@ -87,19 +85,19 @@ fn are_unpartitioned(specs: &[Spec]) -> bool
 }
 
 /// Whether every property of writes is at its default.
-pub fn is_plain_writing(properties: &Properties) -> bool
-    ensures { result ≡ is_plain_writing properties.now }
+pub fn writing_in_form(properties: &Properties) -> bool
+    ensures { result ≡ writing_in_form properties.now }
 {
-    is_plain_mode(&properties.delete)
-        && is_plain_mode(&properties.update)
-        && is_plain_mode(&properties.merge)
+    mode_in_form(&properties.delete)
+        && mode_in_form(&properties.update)
+        && mode_in_form(&properties.merge)
         && properties.retries == 4
         && properties.least_to_merge == 100
         && properties.merge_enabled
 }
 
-fn is_plain_mode(mode: &WriteMode) -> bool
-    ensures { result ≡ is_plain_mode mode.now }
+fn mode_in_form(mode: &WriteMode) -> bool
+    ensures { result ≡ mode_in_form mode.now }
 {
     !mode.on_read && !mode.snapshot_level
 }

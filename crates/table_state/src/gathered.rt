@@ -1,7 +1,8 @@
 // The live files of manifests, as they are read.
-ghost use Rattle.std.specs.Prelude.{◌≡◌, ◌≢◌, ◌<◌, ◌≤◌, ◌+◌, [], ◌∷◌, length, Ok, Err, IfOk, IfErr, IsErrOf};
+ghost use Rattle.std.specs.Prelude.{◌≡◌, ◌<◌, ◌≤◌, ◌+◌, [], ◌∷◌, length, IsErrOf};
 ghost use Rattle.plain_types.specs.Appends.{Appends};
 ghost use Rattle.std.specs.Option.{ForSome};
+ghost use Rattle.plain_types.specs.Answers.{AnswersTold};
 ghost use Rattle.plain_types.specs.Causes.{HasCause};
 ghost use Rattle.table_metadata.specs.Metadata.{parts};
 ghost use Rattle.table_state.specs.Gathering.{gathered_at, live_data, live_deletes, nothing, seen};
@@ -93,10 +94,8 @@ pub(crate) fn gather<S: Store>(
     metadata: &Metadata,
     rows: &[ManifestRow],
 ) -> Result<Gathered, LoadFault>
-    ensures ok { IfOk result (λ gathered. ForSome (S.files store.old)
-        (λ files. gathered_at table.now (parts metadata.now) nothing rows.now files ≡ Ok (seen gathered))) }
-    ensures err { IfErr result (λ f. f ≢ LoadFault.Store → f ≢ LoadFault.Memory
-        → ForSome (S.files store.old) (λ files. gathered_at table.now (parts metadata.now) nothing rows.now files ≡ Err f)) }
+    ensures answers { AnswersTold LoadFault.Store LoadFault.Memory (λ gathered. seen gathered)
+        result (S.files store.old) (λ files. gathered_at table.now (parts metadata.now) nothing rows.now files) }
     ensures files { S.files store.new ≡ S.files store.old }
     ensures unsettled { IsErrOf result LoadFault.Store → 0 < S.unsettled store.new }
     ensures cause { HasCause LoadFault.Store LoadFault.Memory (S.faults store.old) (S.faults store.new) result }

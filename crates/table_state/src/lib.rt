@@ -18,9 +18,7 @@ mod state;
 
 pub use branches::head_of;
 pub use files::{read_data_file_at, read_file, read_list_at, read_manifest_at};
-pub use form::{
-    are_data_entries, are_data_manifests, are_plain_columns, has_form, is_plain_writing,
-};
+pub use form::{are_data_entries, are_data_manifests, columns_in_form, has_form, writing_in_form};
 pub use laws::branches_stand_when_files_are_added;
 pub use live_set::{BranchState, LiveSet, data_files_of};
 pub use load_fault::LoadFault;

@@ -1,6 +1,7 @@
 // The branch of a version.
-ghost use Rattle.std.specs.Prelude.{◌≡◌, ◌≢◌, ◌<◌, ◌≤◌, ◌+◌, [], length, Ok, Err, IfOk, IfErr, IsErrOf};
+ghost use Rattle.std.specs.Prelude.{◌≡◌, ◌≢◌, ◌<◌, ◌≤◌, ◌+◌, [], length, Err, IfOk, IfErr, IsErrOf};
 ghost use Rattle.std.specs.Option.{ForSome};
+ghost use Rattle.plain_types.specs.Answers.{AnswersTold};
 ghost use Rattle.plain_types.specs.Causes.{HasCause};
 ghost use Rattle.plain_types.specs.Steps.{fault_as};
 ghost use Rattle.table_metadata.specs.Metadata.{IsMetadataOf, metadata_of, parts};
@@ -40,9 +41,7 @@ struct Loaded {
 
 #[tactic(auto, using(crate::proofs::ReadCounts::one_more))]
 fn read_bytes<S: Store>(alloc: Global, store: &mut S, name: &str) -> Result<Blob, LoadFault>
-    ensures ok { IfOk result (λ bytes. ForSome (S.files store.old) (λ files. bytes_under name.now name.now files ≡ Ok bytes)) }
-    ensures err { IfErr result (λ f. f ≢ LoadFault.Store → f ≢ LoadFault.Memory
-        → ForSome (S.files store.old) (λ files. bytes_under name.now name.now files ≡ Err f)) }
+    ensures answers { AnswersTold LoadFault.Store LoadFault.Memory (λ bytes. bytes) result (S.files store.old) (λ files. bytes_under name.now name.now files) }
     ensures files { S.files store.new ≡ S.files store.old }
     ensures unsettled { IsErrOf result LoadFault.Store → 0 < S.unsettled store.new }
     ensures cause { HasCause LoadFault.Store LoadFault.Memory (S.faults store.old) (S.faults store.new) result }
@@ -94,9 +93,8 @@ fn load_snapshot<S: Store>(
     metadata: &Metadata,
     snapshot: &Snapshot,
 ) -> Result<Loaded, LoadFault>
-    ensures ok { IfOk result (λ loaded. ForSome (S.files store.old) (λ files. loaded_snapshot table.now (parts metadata.now) snapshot.now files ≡ Ok loaded)) }
-    ensures err { IfErr result (λ f. f ≢ LoadFault.Store → f ≢ LoadFault.Memory
-        → ForSome (S.files store.old) (λ files. loaded_snapshot table.now (parts metadata.now) snapshot.now files ≡ Err f)) }
+    ensures answers { AnswersTold LoadFault.Store LoadFault.Memory (λ loaded. loaded)
+        result (S.files store.old) (λ files. loaded_snapshot table.now (parts metadata.now) snapshot.now files) }
     ensures files { S.files store.new ≡ S.files store.old }
     ensures unsettled { IsErrOf result LoadFault.Store → 0 < S.unsettled store.new }
     ensures cause { HasCause LoadFault.Store LoadFault.Memory (S.faults store.old) (S.faults store.new) result }
@@ -132,9 +130,8 @@ fn load_head<S: Store>(
     branch: &str,
     id: i64,
 ) -> Result<Loaded, LoadFault>
-    ensures ok { IfOk result (λ loaded. ForSome (S.files store.old) (λ files. loaded_head table.now (parts metadata.now) branch.now id files ≡ Ok loaded)) }
-    ensures err { IfErr result (λ f. f ≢ LoadFault.Store → f ≢ LoadFault.Memory
-        → ForSome (S.files store.old) (λ files. loaded_head table.now (parts metadata.now) branch.now id files ≡ Err f)) }
+    ensures answers { AnswersTold LoadFault.Store LoadFault.Memory (λ loaded. loaded)
+        result (S.files store.old) (λ files. loaded_head table.now (parts metadata.now) branch.now id files) }
     ensures files { S.files store.new ≡ S.files store.old }
     ensures unsettled { IsErrOf result LoadFault.Store → 0 < S.unsettled store.new }
     ensures cause { HasCause LoadFault.Store LoadFault.Memory (S.faults store.old) (S.faults store.new) result }
@@ -173,9 +170,8 @@ fn load_branch<S: Store>(
     metadata: &Metadata,
     branch: &str,
 ) -> Result<Loaded, LoadFault>
-    ensures ok { IfOk result (λ loaded. ForSome (S.files store.old) (λ files. loaded_at table.now (parts metadata.now) branch.now files ≡ Ok loaded)) }
-    ensures err { IfErr result (λ f. f ≢ LoadFault.Store → f ≢ LoadFault.Memory
-        → ForSome (S.files store.old) (λ files. loaded_at table.now (parts metadata.now) branch.now files ≡ Err f)) }
+    ensures answers { AnswersTold LoadFault.Store LoadFault.Memory (λ loaded. loaded)
+        result (S.files store.old) (λ files. loaded_at table.now (parts metadata.now) branch.now files) }
     ensures files { S.files store.new ≡ S.files store.old }
     ensures unsettled { IsErrOf result LoadFault.Store → 0 < S.unsettled store.new }
     ensures cause { HasCause LoadFault.Store LoadFault.Memory (S.faults store.old) (S.faults store.new) result }

@@ -1,13 +1,20 @@
 use Rattle.std.proofs.Common.{List, ℕ, subst}
 use Rattle.commit_builder.specs.Puts.{PutsManifests}
+use Rattle.commit_builder.proofs.Puts.{puts_drawn}
 use Rattle.commit_builder.proofs.commit.put_list.Goals as goal
 
--- src/commit.rt:57:1
 pub returns-in-Ok-clause-others : goal.returns-in-Ok-clause-others
 returns-in-Ok-clause-others g c =
-    subst (λ (table : List ℕ). PutsManifests table c.args.names.now (g.S.Store.files c.args.store.now) (g.S.Store.files c.put_next.new.store)) c.as_str-2.ensures c.put_next.ensures.others
+    let names = c.args.names.now in
+    let old = g.S.Store.files c.args.store.now in
+    let new = g.S.Store.files c.put_next.new.store in
+    subst (λ (table : List ℕ). PutsManifests table names old new) c.as_str-table.ensures
+    (puts_drawn 1 c.as_str-table.result.now names c.put_next.new.names old new c.put_next.ensures.draws)
 
--- src/commit.rt:57:1
 pub returns-in-Err-clause-others : goal.returns-in-Err-clause-others
 returns-in-Err-clause-others g c =
-    subst (λ (table : List ℕ). PutsManifests table c.args.names.now (g.S.Store.files c.args.store.now) (g.S.Store.files c.put_next.new.store)) c.as_str-2.ensures c.put_next.ensures.others
+    let names = c.args.names.now in
+    let old = g.S.Store.files c.args.store.now in
+    let new = g.S.Store.files c.put_next.new.store in
+    subst (λ (table : List ℕ). PutsManifests table names old new) c.as_str-table.ensures
+    (puts_drawn 1 c.as_str-table.result.now names c.put_next.new.names old new c.put_next.ensures.draws)

@@ -1,5 +1,5 @@
 use Rattle.std.proofs.Common.{◌≡◌, map, take}
-use Rattle.cow_writer.specs.Copies.{entry_of}
+use Rattle.change_sets.specs.Scanned.{entry_of}
 use Rattle.cow_writer.proofs.writing.entries_of.Given as goal
 
 abbrev pub invariant-loop-file : goal.invariant-loop-file

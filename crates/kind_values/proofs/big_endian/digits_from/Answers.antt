@@ -19,4 +19,6 @@ pub loop-rest-preserved : goal.loop-rest-preserved
 loop-rest-preserved c =
     let fit : FitsSigned w128 c.next_digit-number.result = search rules in
     let byte : get_or c.loop-rest.rest.now 0 0 < 256 = search rules in
-    goes_on (to_z w128 c.loop-rest.number-bits) (to_z w128 (of_z w128 c.next_digit-number.result)) c.loop-rest.rest.now (digits_from (first_digit c.args.first) c.args.bytes.now) c.in-len1-up.len_at_least byte (to_z-of_z w128 c.next_digit-number.result fit ∙ c.next_digit-number.ensures) c.loop-rest.invariant
+    goes_on (to_z w128 c.loop-rest.number-bits) (to_z w128 (of_z w128 c.next_digit-number.result)) c.loop-rest.rest.now
+    (digits_from (first_digit c.args.first) c.args.bytes.now) c.in-len1-up.len_at_least byte
+    (to_z-of_z w128 c.next_digit-number.result fit ∙ c.next_digit-number.ensures) c.loop-rest.invariant

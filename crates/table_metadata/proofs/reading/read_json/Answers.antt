@@ -1,7 +1,7 @@
-use Rattle.std.proofs.Common.{◌≡◌, ◌≢◌, ℕ, List, Bool, true, false, Option, Some, None, Err, cond, refl}
+use Rattle.std.proofs.Common.{◌≡◌, ℕ, List, Bool, true, false, Option, Some, None, Result, Ok, Err, IfOk, IfErr, cond, refl}
 use Rattle.std.specs.Str.{IsUtf8, is_utf8}
 use Rattle.std.proofs.lemmas.Str.{IsUtf8-from_is_utf8, is_utf8-from_IsUtf8}
-use Rattle.std.proofs.lemmas.Result.{IfErr-weaker}
+use Rattle.plain_types.specs.Answers.{Answers}
 use Rattle.serde_json.specs.Data.{Data}
 use Rattle.serde_json.specs.Read.{read}
 use Rattle.serde_json.specs.View.{view}
@@ -26,15 +26,19 @@ json_of-none : (bytes : List ℕ) → (IsUtf8 bytes → read bytes ≡ None) →
 unfolding json_of
 json_of-none bytes h = none_at (is_utf8 bytes) (read bytes) (λ e. h (IsUtf8-from_is_utf8 bytes e))
 
-pub returns-in-Ok-clause-ok : goal.returns-in-Ok-clause-ok
-returns-in-Ok-clause-ok c =
-    rw (json_of-read c.args.bytes.now (view c.in-Ok.json) c.in-Ok.ensures.ok.0 c.in-Ok.ensures.ok.1) c.whole_object.ensures.ok
+answers_surely : {X Y E : Type 0} (free : E) (view : X → Y) (result : Result X E) (wanted : Result Y E)
+    → IfOk result (λ x. wanted ≡ Ok (view x)) → IfErr result (λ f. wanted ≡ Err f) → Answers free view result wanted
+answers_surely free view (Ok x) wanted ok err = ok
+answers_surely free view (Err f) wanted ok err = λ _. err
 
-pub returns-in-Ok-clause-err : goal.returns-in-Ok-clause-err
-returns-in-Ok-clause-err c =
-    rw (json_of-read c.args.bytes.now (view c.in-Ok.json) c.in-Ok.ensures.ok.0 c.in-Ok.ensures.ok.1)
-    (IfErr-weaker c.whole_object.result (λ f. whole_object (view c.in-Ok.json) ≡ Err f) (λ f. f ≢ fault.Memory → whole_object (view c.in-Ok.json) ≡ Err f) (λ f h _. h) c.whole_object.ensures.err)
+pub returns-in-Ok : goal.returns-in-Ok
+returns-in-Ok c = record {
+  answers =
+      rw (json_of-read c.args.bytes.now (view c.in-Ok.json) c.in-Ok.ensures.ok.0 c.in-Ok.ensures.ok.1)
+      (answers_surely fault.Memory view c.whole_object.result (whole_object (view c.in-Ok.json)) c.whole_object.ensures.ok c.whole_object.ensures.err);
+}
 
-pub returns-else-is_memory-clause-err : goal.returns-else-is_memory-clause-err
-returns-else-is_memory-clause-err c = λ _.
-    json_of-none c.args.bytes.now (c.in-Err.ensures.err (λ m. let t = c.is_memory.ensures.1 m in cc))
+pub returns-else-is_memory : goal.returns-else-is_memory
+returns-else-is_memory c = record {
+  answers = λ _. json_of-none c.args.bytes.now (c.in-Err.ensures.err (λ m. let t = c.is_memory.ensures.1 m in cc));
+}

@@ -1,4 +1,4 @@
-use Rattle.std.proofs.Common.{◌≡◌, ◌∷◌, [], ◌++◌, length, ap, ◌∙◌, append_assoc, rules, arith}
+use Rattle.std.proofs.Common.{◌≡◌, ◌∷◌, [], length, ap, ◌∙◌, append_assoc, rules, arith}
 use Rattle.std.specs.Vec.Iter.{into_iter_items}
 use Rattle.table_scan.proofs.RowLaws.{live_count, pushed}
 use Rattle.table_scan.proofs.live_rows.live_rows.Goals as goal

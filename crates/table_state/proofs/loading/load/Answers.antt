@@ -1,4 +1,4 @@
-use Rattle.std.proofs.Common.{◌≡◌, ◌∙◌, refl}
+use Rattle.std.proofs.Common.{◌∙◌, refl}
 use Rattle.table_metadata.specs.Metadata.{parts}
 use Rattle.table_state.proofs.LoadingLaws.{branch_fails, version_fails, what_is_loaded}
 use Rattle.table_state.proofs.ReadCounts.{load_reads}
@@ -9,11 +9,11 @@ returns-in-Err-clause-err g c f m files is = version_fails c.args.table.now c.ar
 
 pub returns-in-Err-load_branch-clause-err : goal.returns-in-Err-load_branch-clause-err
 returns-in-Err-load_branch-clause-err g c f m files is =
-    branch_fails c.args.table.now c.args.version c.args.branch.now files c.in-Ok.metadata c.in-Err-load_branch.fault (c.in-Ok.ensures.ok files is) (c.in-Err-load_branch.ensures.err f m files (c.in-Ok.ensures.files ∙ is))
+    branch_fails c.args.table.now c.args.version c.args.branch.now files c.in-Ok.metadata c.in-Err-load_branch.fault (c.in-Ok.ensures.ok files is) (c.in-Err-load_branch.ensures.answers f m files (c.in-Ok.ensures.files ∙ is))
 
 pub returns-clause-ok : goal.returns-clause-ok
 returns-clause-ok g c files is =
-    let loaded = what_is_loaded c.args.table.now (parts c.in-Ok.metadata) files c.args.branch.now c.in-Ok-load_branch.loaded (c.in-Ok-load_branch.ensures.ok files (c.in-Ok.ensures.files ∙ is)) in
+    let loaded = what_is_loaded c.args.table.now (parts c.in-Ok.metadata) files c.args.branch.now c.in-Ok-load_branch.loaded (c.in-Ok-load_branch.ensures.answers files (c.in-Ok.ensures.files ∙ is)) in
     record { table_name = c.in_ok-copy_of.ensures; version_number = refl; branch_name = c.in_ok-copy_of-2.ensures; metadata = c.in-Ok.ensures.ok files is; head = loaded.0; held = loaded.1 }
 
 pub returns-in-Err-load_branch-clause-reads : goal.returns-in-Err-load_branch-clause-reads

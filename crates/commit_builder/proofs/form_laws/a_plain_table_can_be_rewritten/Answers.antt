@@ -1,5 +1,0 @@
-use Rattle.commit_builder.proofs.Rewriting.{can_be_rewritten}
-use Rattle.commit_builder.proofs.form_laws.a_plain_table_can_be_rewritten.Goals as goal
-
-pub returns : goal.returns
-returns c = λ head version files is form. can_be_rewritten head version files is form

@@ -1,0 +1,20 @@
+use Rattle.std.proofs.Common.{List, ℕ, subst}
+use Rattle.cow_writer.specs.PutNames.{PutsDataFiles}
+use Rattle.cow_writer.proofs.PutLaws.{puts_drawn}
+use Rattle.cow_writer.proofs.writing.write_piece.Goals as goal
+
+pub returns-in-Ok-clause-others : goal.returns-in-Ok-clause-others
+returns-in-Ok-clause-others g c =
+    let names = c.args.names.now in
+    let old = g.S.Store.files c.args.store.now in
+    let new = g.S.Store.files c.put_next.new.store in
+    subst (λ (table : List ℕ). PutsDataFiles table names old new) c.as_str-table.ensures
+    (puts_drawn 1 c.as_str-table.result.now names c.put_next.new.names old new c.put_next.ensures.draws)
+
+pub returns-clause-others : goal.returns-clause-others
+returns-clause-others g c =
+    let names = c.args.names.now in
+    let old = g.S.Store.files c.args.store.now in
+    let new = g.S.Store.files c.put_next.new.store in
+    subst (λ (table : List ℕ). PutsDataFiles table names old new) c.as_str-table.ensures
+    (puts_drawn 1 c.as_str-table.result.now names c.put_next.new.names old new c.put_next.ensures.draws)
