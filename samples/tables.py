@@ -309,3 +309,12 @@ def mixed(root, name, location=None):
     third = table.manifest("m4.avro", [table.entry(1, lacking)], 2, 2)
     table.version(1, [(1, None, 1, [first])], 1)
     table.version(2, [(1, None, 1, [first]), (2, 1, 2, [third, second, rewritten])], 2)
+
+
+def repeated(root, name, location=None):
+    """One snapshot, of which one manifest names the file b.avro twice, and two name a.avro."""
+    table = Table(root, name, COLUMNS, location)
+    a, b, c = (table.data_file(file, [(n, file)]) for n, file in enumerate(("a.avro", "b.avro", "c.avro")))
+    named = ("m1.avro", [b, c, b]), ("m2.avro", [a]), ("m3.avro", [a])
+    rows = [table.manifest(manifest, [table.entry(1, file) for file in files], 1, 1) for manifest, files in named]
+    table.version(1, [(1, None, 1, rows)], 1)

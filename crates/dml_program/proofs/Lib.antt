@@ -5,3 +5,4 @@ mod Openings
 mod Reports
 mod ScriptReports
 mod ToldAnswers
+mod TwiceLaws

@@ -21,7 +21,8 @@ use Rattle.table_metadata.specs.ById.{snapshot_with}
 use Rattle.table_state.specs.Form.{has_form, is_data_manifest}
 use Rattle.dml_program.specs.declared.status.TableKind.TheVariants.{NoVersion, Later}
 use Rattle.dml_program.specs.Opening.{Fault, table_rows}
-use Rattle.dml_program.specs.TableInForm.{or_path, if_form, list_in_form, manifest_in_form, entries_in_form, file_in_form, rows_in_form, snapshot_in_form, main_in_form, metadata_in_form, version_in_form}
+use Rattle.dml_program.specs.Twice.{twice}
+use Rattle.dml_program.specs.TableInForm.{or_path, if_form, list_in_form, manifest_in_form, entries_in_form, file_in_form, rows_in_form, if_once, snapshot_in_form, main_in_form, metadata_in_form, version_in_form}
 
 -- ---- steps
 
@@ -37,6 +38,10 @@ refault f g None a e = cc
 pub formed : {A : Type 0} (path : List ℕ) (a : A) (b : Bool) (x : A) → if_form path a b ≡ Ok x → (a ≡ x) × (b ≡ true)
 formed path a true x e = (cc, refl)
 formed path a false x e = cc
+
+unless_found : {A : Type 0} (path : Option (List ℕ)) (a : A) (x : A) → by_option path Err (Ok a) ≡ Ok x → a ≡ x
+unless_found (Some path) a x e = cc
+unless_found None a x e = cc
 
 pub then_ok : {A B E : Type 0} (r : Result A E) (f : A → Result B E) (a : A) → r ≡ Ok a → (r >>= f) ≡ f a
 then_ok r f a e = ap (λ s. s >>= f) e
@@ -109,14 +114,15 @@ module _ (table : List ℕ) (parts : Parts) (files : Files) where
       → (snapshot_at table parts snapshot files >>= λ found. data_rows table parts [] (data_files_of found) files) ≡ Ok rows
   unfolding snapshot_in_form snapshot_at
   read_snapshot snapshot rows e =
-      let s = two_steps (list_in_form table parts snapshot.list files) (λ listed. entries_in_form table parts [] listed files >>= λ live. rows_in_form table parts [] live files) rows e in
-      let t = two_steps (entries_in_form table parts [] s.0 files) (λ live. rows_in_form table parts [] live files) rows s.2 in
+      let s = two_steps (list_in_form table parts snapshot.list files) (λ listed. entries_in_form table parts [] listed files >>= λ live. rows_in_form table parts [] live files >>= if_once live) rows e in
+      let t = two_steps (entries_in_form table parts [] s.0 files) (λ live. rows_in_form table parts [] live files >>= if_once live) rows s.2 in
+      let u = two_steps (rows_in_form table parts [] t.0 files) (if_once t.0) rows t.2 in
       let r = read_entries [] [] refl s.0 t.0 t.1 in
       let listed = read_list snapshot.list s.0 s.1 in
       ap (λ found. found >>= λ b. data_rows table parts [] (data_files_of b) files)
       (then_ok (list_at table parts snapshot.list files) (λ found. entries_at table parts [] found files >>= λ entries. Ok (state.Head snapshot.id found (set_of entries))) s.0 listed
       ∙ then_ok (entries_at table parts [] s.0 files) (λ entries. Ok (state.Head snapshot.id s.0 (set_of entries))) r.0 r.1)
-      ∙ ap (λ live. data_rows table parts [] live files) r.2 ∙ read_rows [] t.0 rows t.2
+      ∙ ap (λ live. data_rows table parts [] live files) r.2 ∙ read_rows [] t.0 u.0 u.1 ∙ ap Ok (unless_found (twice t.0) u.0 rows u.2)
 
   main_found : (name : List ℕ) (head : Option ℤ) (rows : List (List Value))
       → by_option head (λ id. or_fault name (snapshot_with id parts.snapshots) >>= λ snapshot. snapshot_in_form table parts snapshot files)

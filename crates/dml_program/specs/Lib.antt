@@ -6,3 +6,4 @@ pub mod Opening
 pub mod TableInForm
 pub mod ScriptRuns
 pub mod Statuses
+pub mod Twice

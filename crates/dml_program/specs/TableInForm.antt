@@ -1,6 +1,6 @@
 -- The rows of a table of the form that is read so far, or the path of the first of its files that is missing or of another
 -- form: the metadata first, then the manifest list, the manifests in the list's order, and the data files in the order of
--- their manifests.
+-- their manifests. Where all are, it is the least path in byte order that more than one of the live entries has.
 use Rattle.std.specs.Prelude.{ℕ, Bool, true, false, codes, List, [], ◌∷◌, ◌++◌, filter, Result, Ok, Err}
 use Rattle.std.specs.FinMap as map
 use Rattle.std.specs.List.{list_all}
@@ -16,6 +16,7 @@ use Rattle.table_state.specs.Live.{head_of, is_live, is_data}
 use Rattle.table_metadata.specs.ById.{snapshot_with}
 use Rattle.table_names.specs.Versions.{version_name}
 use Rattle.table_state.specs.Form.{has_form, is_data_manifest}
+use Rattle.dml_program.specs.Twice.{twice}
 
 -- a value, or the path instead of why there is none
 abbrev pub or_path : {A E : Type 0} → List ℕ → Result A E → Result A (List ℕ)
@@ -45,11 +46,16 @@ unfoldable pub rows_in_form : List ℕ → Parts → List (List Value) → List 
 rows_in_form table parts earlier [] files = Ok earlier
 rows_in_form table parts earlier (entry ∷ entries) files = file_in_form table parts entry.path files >>= λ rows. rows_in_form table parts (earlier ++ rows) entries files
 
+-- the rows of these entries, unless two of them have one path
+abbrev pub if_once : List Entry → List (List Value) → Result (List (List Value)) (List ℕ)
+if_once entries rows = by_option (twice entries) Err (Ok rows)
+
 unfoldable pub snapshot_in_form : List ℕ → Parts → Snapshot → Files → Result (List (List Value)) (List ℕ)
 snapshot_in_form table parts snapshot files = do
   rows ← list_in_form table parts snapshot.list files
   entries ← entries_in_form table parts [] rows files
-  rows_in_form table parts [] entries files
+  found ← rows_in_form table parts [] entries files
+  if_once entries found
 
 -- `main`, of a version whose metadata has this name
 unfoldable pub main_in_form : List ℕ → List ℕ → Parts → Files → Result (List (List Value)) (List ℕ)

@@ -14,6 +14,7 @@ mod report;
 mod run;
 mod script_run;
 mod status;
+mod twice;
 
 pub use laws::printed_rows_are_those_of_main;
 pub use run::run_program;

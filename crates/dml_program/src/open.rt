@@ -14,6 +14,7 @@ ghost use Rattle.dml_program.specs.Beginning.{opened_at};
 ghost use Rattle.dml_program.specs.Opening.{IsRefusal, Refuses, RefusesTable, load_status, table_rows};
 ghost use Rattle.dml_program.specs.TableInForm.{
   if_form,
+  if_once,
   entries_in_form,
   file_in_form,
   list_in_form,
@@ -26,6 +27,7 @@ ghost use Rattle.dml_program.specs.TableInForm.{
 };
 
 use crate::status::{Status, TableKind};
+use crate::twice::path_twice;
 use manifest_files::{Entry, ManifestRow};
 use plain_types::{List, Text};
 use row_values::Row;
@@ -218,6 +220,19 @@ fn rows_in_form<S: Store>(
     Ok(rows)
 }
 
+// The rows of these entries, unless two of them have one path.
+fn if_once(alloc: Global, entries: &[Entry], rows: Vec<Row>) -> Result<Vec<Row>, Status>
+    ensures found { IfOk result (λ found. if_once entries.now rows.items ≡ Ok found.items) }
+    ensures refused { IfErr result (Refuses (if_once entries.now rows.items)) }
+    ensures kind { IfErr result IsRefusal }
+    ensures inside { IsErrOf result Status.StoreFailed → ⊥ }
+{
+    match path_twice(alloc, entries)? {
+        Some(path) => Err(later(Text::copy_of(alloc, path)?)),
+        None => Ok(rows),
+    }
+}
+
 // The rows of a snapshot.
 #[tactic(auto, unfolding(crate::specs::TableInForm::snapshot_in_form))]
 fn snapshot_in_form<S: Store>(
@@ -238,7 +253,8 @@ fn snapshot_in_form<S: Store>(
 {
     let rows = list_in_form(alloc, store, table, metadata, snapshot.list.as_str())?;
     let entries = entries_in_form(alloc, store, table, metadata, rows.as_slice())?;
-    rows_in_form(alloc, store, table, metadata, entries.as_slice())
+    let found = rows_in_form(alloc, store, table, metadata, entries.as_slice())?;
+    if_once(alloc, entries.as_slice(), found)
 }
 
 // The rows of `main`, of a version whose metadata has this name.

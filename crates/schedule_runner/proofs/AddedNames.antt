@@ -1,13 +1,11 @@
 -- What the steps of a session leave, of names that begin at 1 in a fresh run, is what a run adds.
-use Rattle.std.proofs.Common.{◌≡◌, ◌≤◌, ℕ, List, Option, Some, None, is_some, arith, refl, sym, subst, ◌∙◌, inl, inr}
-use Rattle.std.specs.FinMap as map
+use Rattle.std.proofs.Common.{◌≡◌, ℕ, List, Option, Some, None, is_some, arith, refl, subst, inl, inr}
 use Rattle.store_core.specs.Files.{Files}
 use Rattle.table_names.specs.declared.names.Names.{Names}
 use Rattle.table_names.specs.FileNames.{data_name, metadata_name}
 use Rattle.table_names.specs.Runs.{IsFreshRun}
-use Rattle.table_names.specs.Versions.{version_of_name, version_prefix}
 use Rattle.session_steps.specs.Steps.{LeavesOthers}
-use Rattle.schedule_runner.specs.Adding.{Adds, AddsAtMost, IsOfSession}
+use Rattle.schedule_runner.specs.Adding.{Adds, AddsAtMost}
 
 module _ (table session : List ℕ) (names : Names) (start : Files) (is : names.session ≡ session) (one : names.next ≡ 1) (fresh : IsFreshRun table start names.run) where
   added : (files : Files) → LeavesOthers table names (Some start) (Some files) → Adds table session start files

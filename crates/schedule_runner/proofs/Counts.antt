@@ -1,6 +1,6 @@
 -- What a stop needs of the counts of the store's faults it has between wider counts too, and its cause stands on the files that
 -- it leaves.
-use Rattle.std.proofs.Common.{◌≡◌, ◌≤◌, ℕ, codes, List, Option, Some, None, arith, refl, sym, ap, subst, ◌∙◌, ◌⊎◌, inl, inr}
+use Rattle.std.proofs.Common.{◌≡◌, ◌≤◌, ℕ, codes, List, Option, Some, None, arith, sym, ap, subst, ◌∙◌, ◌⊎◌, inl, inr}
 use Rattle.plain_types.specs.Causes.{Rose, RoseTwice}
 use Rattle.row_values.specs.declared.schema.TableSchema.{TableSchema}
 use Rattle.sql_statements.specs.declared.statement.Source.{Source}
@@ -19,7 +19,7 @@ use Rattle.session_steps.specs.Outside.{IsOfOutside}
 use Rattle.session_steps.specs.declared.fault.RunFault.{RunFault}
 use Rattle.session_steps.specs.declared.fault.RunFault.TheVariants as run
 use Rattle.session_steps.specs.Steps.{MayCommit}
-use Rattle.schedule_runner.specs.Outcome.{IsOutcome, Stopped}
+use Rattle.schedule_runner.specs.Outcome.{IsOutcome}
 use Rattle.schedule_runner.specs.Running.{Ended, IsInFlight, IsLeft}
 
 -- ---- counts

@@ -1,9 +1,12 @@
 mod AddedNames
+mod AloneLaws
+mod BaseLaws
 mod BlockCounts
 pub mod CallerLemmas
 mod CountLaws
 mod Counts
 mod DatumCounts
+mod EntryLaws
 mod Outcomes
 mod ReadScripts
 mod RunLaws
@@ -11,4 +14,5 @@ mod RunningLaws
 mod SerialLaws
 mod StepLaws
 mod TurnLaws
+mod TurnsAlone
 mod Unbegun

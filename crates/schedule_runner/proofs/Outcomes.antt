@@ -1,5 +1,5 @@
 -- A session is run on until it is finished or stopped.
-use Rattle.std.proofs.Common.{◌≡◌, ◌≤◌, ◌<◌, ℕ, zero, suc, codes, arith, length, true, List, [], ◌∷◌, ◌++◌, Option, Some, None, is_some, refl, sym, ap, subst, ◌∙◌, inl, slice_get}
+use Rattle.std.proofs.Common.{◌≡◌, ◌≤◌, ◌<◌, ℕ, zero, suc, codes, arith, length, true, List, [], ◌∷◌, Option, Some, None, is_some, refl, sym, ap, subst, ◌∙◌, inl, slice_get}
 use Rattle.std.specs.List.{AllByRecursion}
 use Rattle.std.specs.Option.{ForSome}
 use Rattle.std.specs.Prelude.{◌≢◌}
@@ -20,7 +20,7 @@ use Rattle.session_steps.specs.declared.session.Session.{Session}
 use Rattle.session_steps.specs.Faults.{CannotStep}
 use Rattle.session_steps.specs.Steps.{LeavesOthers}
 use Rattle.session_steps.proofs.CallerLemmas.{all_at, is_of_outside}
-use Rattle.schedule_runner.specs.Running.{Ended, Finished, Running}
+use Rattle.schedule_runner.specs.Running.{Ended, Running}
 use Rattle.schedule_runner.specs.Runs.{IsRun}
 use Rattle.schedule_runner.proofs.RunningLaws.{begins, finishes, idle, serial_begins, way_begins}
 use Rattle.session_steps.specs.Outside.{IsOfOutside}

@@ -1,5 +1,5 @@
 -- A script that was read meets what a run asks of its statements and of its session's name.
-use Rattle.std.proofs.Common.{◌≡◌, ◌≤◌, ◌<◌, ◌^◌, ℕ, codes, true, List, [], ◌∷◌, length, IsTrue, refl, rules, arith}
+use Rattle.std.proofs.Common.{◌≡◌, ◌≤◌, ◌<◌, ◌^◌, ℕ, codes, true, List, [], ◌∷◌, length, refl, rules, arith}
 use Rattle.std.specs.List.{AllByRecursion}
 use Rattle.std.specs.Str.{IsUtf8}
 use Rattle.row_values.specs.declared.schema.Column.{Column}
@@ -8,7 +8,7 @@ use Rattle.sql_statements.specs.declared.statement.Statement.{Statement}
 use Rattle.sql_statements.specs.Tables.{branch_of, is_dml}
 use Rattle.dml_parser.specs.declared.script.Script.{Script}
 use Rattle.dml_parser.specs.declared.script.SessionItem.{SessionItem}
-use Rattle.dml_parser.specs.Read.{AreRead, HasNo, IsRead, IsShort}
+use Rattle.dml_parser.specs.Read.{HasNo, IsRead}
 use Rattle.dml_parser.proofs.CallerLemmas.{are_read, are_short, are_utf8, have_no_slash}
 use Rattle.table_names.specs.Sessions.{HasNoSlash}
 use Rattle.branch_commit.specs.Planning.{IsOfColumns}

@@ -1,5 +1,5 @@
 -- A session that begins is running, and a step that is made keeps it so.
-use Rattle.std.proofs.Common.{◌≡◌, ◌≤◌, ◌+◌, ℕ, codes, true, List, [], ◌∷◌, ◌++◌, Option, Some, None, Result, Ok, ◌⊎◌, ⊎_elim, refl, sym, ap, subst, ◌∙◌, slice_get, inl, inr, arith}
+use Rattle.std.proofs.Common.{◌≡◌, ◌≤◌, ℕ, codes, true, List, [], ◌∷◌, ◌++◌, Option, Some, None, Result, Ok, ⊎_elim, refl, sym, ap, subst, ◌∙◌, slice_get, inl, inr, arith}
 use Rattle.std.specs.List.{AllByRecursion}
 use Rattle.std.proofs.lemmas.Grind.{flat_map-append}
 use Rattle.plain_types.specs.Steps.{by_option}
@@ -16,7 +16,6 @@ use Rattle.session_machine.specs.declared.answer.Answer.TheVariants as answer
 use Rattle.session_machine.specs.declared.event.Stepped.{Stepped}
 use Rattle.table_names.specs.Versions.{version_of_name, version_prefix}
 use Rattle.table_state.specs.declared.load_fault.LoadFault.{LoadFault}
-use Rattle.table_state.specs.Live.{rows_of_branch}
 use Rattle.table_state.proofs.CallerLemmas.{rows_of_branch_stand}
 use Rattle.session_machine.specs.declared.place.Phase.TheVariants as phase
 use Rattle.session_machine.specs.declared.place.Place.{Place}

@@ -1,11 +1,10 @@
 -- A run whose first names can't be had leaves the table as it was.
-use Rattle.std.proofs.Common.{◌≡◌, ◌⊎◌, inl, inr, ℕ, List, [], Option, Some, refl, subst, sym, ◌∙◌}
+use Rattle.std.proofs.Common.{◌≡◌, ◌⊎◌, inl, inr, ℕ, List, [], Option, Some, subst, sym, ◌∙◌}
 use Rattle.std.specs.Option.{ForSome}
 use Rattle.row_values.specs.declared.schema.TableSchema.{TableSchema}
 use Rattle.sql_statements.specs.declared.statement.Source.{Source}
 use Rattle.sql_statements.specs.declared.statement.Statement.{Statement}
 use Rattle.store_core.specs.Files.{Files}
-use Rattle.session_machine.specs.declared.event.Stepped.{Stepped}
 use Rattle.session_steps.specs.Open.{IsOpen}
 use Rattle.session_steps.specs.declared.fault.RunFault.{RunFault}
 use Rattle.session_steps.specs.declared.fault.RunFault.TheVariants as run

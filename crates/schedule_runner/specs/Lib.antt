@@ -1,4 +1,5 @@
 pub mod Adding
+pub mod Conflicts
 pub mod Outcome
 pub mod Rows
 pub mod Running

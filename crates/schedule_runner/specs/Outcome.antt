@@ -4,7 +4,7 @@ use Rattle.std.specs.Prelude.{◌≡◌, ℕ, List, Option, None, Some}
 use Rattle.row_values.specs.declared.schema.TableSchema.{TableSchema}
 use Rattle.sql_statements.specs.declared.statement.Source.{Source}
 use Rattle.sql_statements.specs.declared.statement.Statement.{Statement}
-use Rattle.store_core.specs.Files.{Files, KeepsFiles}
+use Rattle.store_core.specs.Files.{Files}
 use Rattle.session_machine.specs.declared.event.Stepped.{Stepped}
 use Rattle.session_machine.specs.declared.place.Phase.TheVariants as phase
 use Rattle.session_machine.specs.declared.place.Place.{Place}

@@ -1,5 +1,5 @@
 -- What a script asks of a run (ours: no standard has it): its one session, and the statements of it.
-use Rattle.std.specs.Prelude.{◌≡◌, ℕ, List, [], map, slice_get, Ok}
+use Rattle.std.specs.Prelude.{◌≡◌, ℕ, List, [], slice_get, Ok}
 use Rattle.plain_types.specs.Steps.{by_option}
 use Rattle.row_values.specs.declared.schema.TableSchema.{TableSchema}
 use Rattle.sql_statements.specs.declared.statement.Statement.{Statement}

@@ -1,6 +1,6 @@
 //! The laws of runs. Each is the contract of a function that does nothing.
-ghost use Rattle.std.specs.Prelude.{◌≡◌, ◌⊎◌, ◌∷◌, ◌++◌, [], true, codes, slice_get, ℕ, List as Seq, Option as Maybe, None, Ok, Some};
-ghost use Rattle.std.specs.List.{AllByRecursion};
+ghost use Rattle.std.specs.Prelude.{◌≡◌, ◌⊎◌, ◌∷◌, ◌++◌, [], IsTrue, not, true, codes, slice_get, ℕ, List as Seq, Option as Maybe, None, Ok, Some};
+ghost use Rattle.std.specs.List.{AllByRecursion, list_all};
 ghost use Rattle.row_values.specs.declared.schema.Column.{Column};
 ghost use Rattle.row_values.specs.declared.schema.TableSchema.{TableSchema};
 ghost use Rattle.row_values.specs.declared.value.Value.{Value};
@@ -14,6 +14,8 @@ ghost use Rattle.session_machine.specs.declared.event.Stepped.{Stepped as Step};
 ghost use Rattle.session_machine.specs.declared.place.Place.{Place as Stand};
 ghost use Rattle.session_machine.specs.declared.place.Phase.TheVariants as phases;
 ghost use Rattle.session_machine.specs.Machine.{Turned, turn, turn_of};
+ghost use Rattle.session_machine.specs.Plans.{is_creation};
+ghost use Rattle.schedule_runner.specs.Conflicts.{is_its_own, meets_none};
 ghost use Rattle.session_steps.specs.Open.{IsOpen};
 ghost use Rattle.session_steps.specs.declared.session.Session.{Session};
 ghost use Rattle.session_steps.specs.Steps.{EndsOf, IsHeld, IsStep, LeavesRows};
@@ -96,4 +98,19 @@ pub fn a_step_that_fails_ends_a_run()
         → EndsOf table schema sources (Some s) old new running.last session.place before now fault
         → (ended : Ended table schema sources statements start first place begun new session.place steps before now fault)
         × (ended.last ≡ running.last) }
+{}
+
+/// A session that is alone on a table meets no conflict, and no swap of its is lost: a statement that makes no branch is carried
+/// out, or changes nothing, or is refused for want of its branch or by plain SQL.
+pub fn a_lone_session_meets_no_conflict()
+    ensures none { (table : Seq ℕ) (sources : Seq Source) (files : Files) (statements : Seq Statement) (current : ℕ) (place : Stand)
+        (steps : Seq Step) (last : ℕ) (to : Stand) → place.phase ≡ phases.Plan
+        → IsTrue (list_all (λ s. not (is_creation s)) statements)
+        → IsRun table sources files statements current place steps last to
+        → IsTrue (list_all (λ stepped. meets_none stepped.answer) steps) }
+    ensures own { (table : Seq ℕ) (sources : Seq Source) (files : Files) (statements : Seq Statement) (current : ℕ) (place : Stand)
+        (steps : Seq Step) (last : ℕ) (to : Stand) → place.phase ≡ phases.Plan
+        → IsTrue (list_all (λ s. not (is_creation s)) statements)
+        → IsRun table sources files statements current place steps last to
+        → IsTrue (list_all (λ stepped. is_its_own stepped.answer) steps) }
 {}

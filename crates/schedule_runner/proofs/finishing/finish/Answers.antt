@@ -1,6 +1,5 @@
-use Rattle.std.proofs.Common.{Some, None, List, [], arith, refl, subst, sym, ◌∙◌}
+use Rattle.std.proofs.Common.{Some, None, arith, refl, subst, sym, ◌∙◌}
 use Rattle.std.proofs.lemmas.Option.{slice_get_past}
-use Rattle.session_machine.specs.declared.event.Stepped.{Stepped}
 use Rattle.session_machine.specs.declared.place.Phase.{Phase}
 use Rattle.session_steps.specs.declared.fault.RunFault.TheVariants as run
 use Rattle.session_steps.specs.Steps.{InShape}

@@ -1,6 +1,6 @@
-use Rattle.std.proofs.Common.{◌≡◌, ◌≤◌, ℕ, Some, is_some}
+use Rattle.std.proofs.Common.{◌≡◌, ◌≤◌, is_some}
 use Rattle.std.specs.Option.{ForSome}
-use Rattle.store_core.specs.Files.{Files, KeepsFiles}
+use Rattle.store_core.specs.Files.{KeepsFiles}
 use Rattle.table_names.specs.FileNames.{NoneFrom}
 use Rattle.commit_builder.specs.NextVersion.{AreNames}
 use Rattle.session_steps.specs.Steps.{HasShape, LeavesOthers}

@@ -1,0 +1,1 @@
+SESSION s; DELETE FROM t;
